@@ -8,5 +8,5 @@ returns : tie.Need-returns
 unfolding fresh
 returns c = refl
 
-pub new-call-spec : {M : Type 1} → statement M
-new-call-spec = tie.close (tie.spec returns)
+pub new_call_spec : {M : Type 1} → statement M
+new_call_spec = tie.close (tie.spec returns)

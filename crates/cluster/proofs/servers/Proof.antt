@@ -8,5 +8,5 @@ returns : tie.Need-returns
 unfolding shelf
 returns c = search rules
 
-pub servers-spec : {M : Type 1} → statement M
-servers-spec = tie.close (tie.spec (λ c. search rules) (λ c. search rules) returns)
+pub servers_spec : {M : Type 1} → statement M
+servers_spec = tie.close (tie.spec (λ c. search rules) (λ c. search rules) returns)

@@ -8,5 +8,5 @@ returns : tie.Need-returns
 unfolding shelf
 returns c = search rules
 
-pub threshold-spec : {M : Type 1} → statement M
-threshold-spec = tie.close (tie.spec (λ c. search rules) returns)
+pub threshold_spec : {M : Type 1} → statement M
+threshold_spec = tie.close (tie.spec (λ c. search rules) returns)

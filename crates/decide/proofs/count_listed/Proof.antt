@@ -15,20 +15,20 @@ use Rattle.decide.proofs.Arguments.{unusable, known, is-usable}
 use Rattle.decide.proofs.count_listed.Statement.{statement}
 use Rattle.decide.proofs.count_listed.Tie as tie
 
-abbrev invariant-loop : tie.invariant-loop
+abbrev invariant-loop : tie.invariant-loop-i
 invariant-loop kept t s n₀ i₀ n i = (i ≤ s) × (n ≡ count_to i (enters (candidates_in (shelf t) kept)))
 
-abbrev decreases-loop : tie.decreases-loop
+abbrev decreases-loop : tie.decreases-loop-i
 decreases-loop kept t s n₀ i₀ n i = s - i
 
-returns : tie.Need-returns invariant-loop decreases-loop
+returns : tie.Need-returns-then-not-is_usable invariant-loop decreases-loop
 unfolding listed_count
-returns c = rw (unusable c.before.is-usable.ensures c.if1.true)
+returns c = rw (unusable c.before.is_usable.ensures c.if-not-is_usable.true)
 
-servers-requires : tie.Need-servers-requires invariant-loop decreases-loop
-servers-requires c κs = (known c.before.is-usable.ensures c.if1.false).high
+servers-requires : tie.Need-servers-s-requires invariant-loop decreases-loop
+servers-requires c κs = (known c.before.is_usable.ensures c.if-not-is_usable.false).high
 
-loop-holds : tie.Need-loop-init invariant-loop decreases-loop
+loop-holds : tie.Need-loop-i-init invariant-loop decreases-loop
 loop-holds c =
     let at-else1 = c.before in (
       omega arith,
@@ -36,16 +36,16 @@ loop-holds c =
           at-else1.before.before.before.args.kept.now))),
     )
 
-entry-requires : tie.Need-entry-requires invariant-loop decreases-loop
+entry-requires : tie.Need-entry-n-requires invariant-loop decreases-loop
 entry-requires c κs =
-    let u = known c.before.before.before.before.is-usable.ensures c.before.before.before.if1.false in
-    (u, omega (arith, c.before.before.servers.ensures.1, u.high, c.before.loop.invariant.0))
+    let u = known c.before.before.before.before.is_usable.ensures c.before.before.before.if-not-is_usable.false in
+    (u, omega (arith, c.before.before.servers-s.ensures.1, u.high, c.before.loop-i.invariant.0))
 
 -- Places far back, each named once: the place, and from where it is seen.
-abbrev else1-from-entry : tie.After-entry invariant-loop decreases-loop → tie.Else1 invariant-loop decreases-loop
+abbrev else1-from-entry : tie.After-entry-n invariant-loop decreases-loop → tie.Else-not-is_usable invariant-loop decreases-loop
 else1-from-entry c = c.before.before.before.before
 
-add-n : tie.Need-overflow-add-n invariant-loop decreases-loop
+add-n : tie.Need-overflow_add-n invariant-loop decreases-loop
 add-n c =
     let at-else1 = else1-from-entry c in
     let a = at-else1.before.before.before.args in
@@ -53,38 +53,38 @@ add-n c =
     let u = known at-else1.before.is-usable.ensures at-else1.if1.left in
     omega (
       arith,
-      c.before.before.loop.invariant.1,
-      c.before.before.loop.invariant.0,
-      count-le c.before.before.loop.i p,
-      c.entry.ensures,
+      c.before.before.loop-i.invariant.1,
+      c.before.before.loop-i.invariant.0,
+      count-le c.before.before.loop-i.i p,
+      c.entry-n.ensures,
       bit_le
-          (p (suc c.before.before.loop.i)),
-      c.before.before.before.servers.ensures.1,
+          (p (suc c.before.before.loop-i.i)),
+      c.before.before.before.servers-s.ensures.1,
       u.high,
     )
 
-add-i : tie.Need-overflow-add-i invariant-loop decreases-loop
+add-i : tie.Need-overflow_add-i invariant-loop decreases-loop
 add-i c =
     let at-else1 = else1-from-entry c in
     let u = known at-else1.before.is-usable.ensures at-else1.if1.left in omega
-    (arith, c.before.before.before.servers.ensures.1, u.high)
+    (arith, c.before.before.before.servers-s.ensures.1, u.high)
 
-loop-again : tie.Need-loop-preserved invariant-loop decreases-loop
+loop-again : tie.Need-loop-i-preserved invariant-loop decreases-loop
 loop-again c =
     let a = (else1-from-entry c).before.before.before.args in
     let p = enters (candidates_in (shelf a.t) a.kept.now) in
-    (omega arith, omega (arith, c.before.before.loop.invariant.1, count_more c.before.before.loop.i p, c.entry.ensures))
+    (omega arith, omega (arith, c.before.before.loop-i.invariant.1, count_more c.before.before.loop-i.i p, c.entry-n.ensures))
 
-returns-2 : tie.Need-returns-2 invariant-loop decreases-loop
+returns-2 : tie.Need-returns invariant-loop decreases-loop
 unfolding listed_count
 returns-2 c =
     let at-else1 = c.before.before.before in
     let a = at-else1.before.before.before.args in
-    let e : c.before.loop.i ≡ (shelf a.t).servers = omega (arith, c.before.before.servers.ensures.0) in
-    rw (is-usable at-else1.before.is-usable.ensures c.before.before.before.if1.false)
-    (c.before.loop.invariant.1 ∙ ap (λ (k : ℕ). count_to k (enters (candidates_in (shelf a.t) a.kept.now))) e
+    let e : c.before.loop-i.i ≡ (shelf a.t).servers = omega (arith, c.before.before.servers-s.ensures.0) in
+    rw (is-usable at-else1.before.is_usable.ensures c.before.before.before.if-not-is_usable.false)
+    (c.before.loop-i.invariant.1 ∙ ap (λ (k : ℕ). count_to k (enters (candidates_in (shelf a.t) a.kept.now))) e
     ∙ sym (gather-count (candidates_in (shelf a.t) a.kept.now) (shelf a.t).servers))
 
-pub count-listed-spec : {M : Type 1} → statement M
-count-listed-spec = tie.close (tie.spec invariant-loop decreases-loop (λ c κs. search rules) returns servers-requires loop-holds entry-requires add-n add-i
+pub count_listed_spec : {M : Type 1} → statement M
+count_listed_spec = tie.close (tie.spec invariant-loop decreases-loop (λ c κs. search rules) returns servers-requires loop-holds entry-requires add-n add-i
     (λ c. omega arith) loop-again returns-2)

@@ -12,21 +12,21 @@ use Rattle.decide.proofs.decide_refusal.Statement.{statement}
 use Rattle.decide.proofs.decide_refusal.Tie as tie
 
 -- the tests that do not apply
-past₁ : (c : tie.Else1) → eqb c.before.args.size kept_size ≡ true
-past₁ c = eq-eqb c.before.args.size kept_size c.if1.false
+past₁ : (c : tie.Else-size-ne-KEPT) → eqb c.before.args.size kept_size ≡ true
+past₁ c = eq-eqb c.before.args.size kept_size c.if-size-ne-KEPT.false
 
-past₂ : (c : tie.Else2) → not (within 1 top_faults c.before.before.before.args.t) ≡ false
-past₂ c = sym c.before.outside.ensures ∙ c.if2.false
+past₂ : (c : tie.Else-outside) → not (within 1 top_faults c.before.before.before.args.t) ≡ false
+past₂ c = sym c.before.outside.ensures ∙ c.if-outside.false
 
-returns : tie.Need-returns
+returns : tie.Need-returns-then-size-ne-KEPT
 unfolding decide_refusal_def
-returns c = rw (ne_eqb c.before.args.size kept_size c.if1.true)
+returns c = rw (ne_eqb c.before.args.size kept_size c.if-size-ne-KEPT.true)
 
-returns-2 : tie.Need-returns-2
+returns-2 : tie.Need-returns-then-outside
 unfolding decide_refusal_def
-returns-2 c = rw (past₁ c.before.before, sym c.before.outside.ensures ∙ c.if2.true)
+returns-2 c = rw (past₁ c.before.before, sym c.before.outside.ensures ∙ c.if-outside.true)
 
-returns-3 : tie.Need-returns-3
+returns-3 : tie.Need-returns-then-room-lt-CONTENT_ROOM
 unfolding decide_refusal_def
 returns-3 c = rw (
   past₁ c.before.before.before,
@@ -35,7 +35,7 @@ returns-3 c = rw (
       (omega arith),
 )
 
-returns-4 : tie.Need-returns-4
+returns-4 : tie.Need-returns
 unfolding decide_refusal_def
 returns-4 c = rw (
   past₁ c.before.before.before,
@@ -44,5 +44,5 @@ returns-4 c = rw (
       (omega arith),
 )
 
-pub decide-refusal-spec : {M : Type 1} → statement M
-decide-refusal-spec = tie.close (tie.spec returns (λ c κs. search rules) returns-2 returns-3 returns-4)
+pub decide_refusal_spec : {M : Type 1} → statement M
+decide_refusal_spec = tie.close (tie.spec returns (λ c κs. search rules) returns-2 returns-3 returns-4)

@@ -9,27 +9,27 @@ use borrow.Author.Rules.{rules}
 use Rattle.drill.proofs.drill.Statement.{statement}
 use Rattle.drill.proofs.drill.Tie as tie
 
-returns : tie.Need-returns
+returns : tie.Need-returns-then-work-ne-WORK
 returns c = let a = c.before.before.before.before.before.args in rw c.refused.ensures
-    (drill-1 a.sheet.now a.out.now a.work.now c.before.if1.true)
+    (drill-1 a.sheet.now a.out.now a.work.now c.before.if-work-ne-WORK.true)
 
 -- Places far back, each named once: the place, and from where it is seen.
-abbrev start-from-rows-for : tie.After-rows-for → tie.Start
+abbrev start-from-rows-for : tie.After-rows_for → tie.Start
 start-from-rows-for c = c.before.before.before.before.before.before
 
-returns-2 : tie.Need-returns-2
+returns-2 : tie.Need-returns-then-out-rows_for
 returns-2 c =
     let at-rows-for = c.before.before in
     let a = (start-from-rows-for at-rows-for).args in
-    let m : c.before.before.rows-for.result ≡ rows_for_def (length (lines a.sheet.now)) = c.before.before.rows-for.ensures ∙ ap rows_for_def
-    c.before.before.before.count-lines.ensures in
-    rw c.refused2.ensures (drill-15 a.sheet.now a.out.now a.work.now at-rows-for.before.before.if1.false
-    (room_short (length a.out.now) _ (rw m at c.before.if2.true)))
+    let m : c.before.before.rows_for.result ≡ rows_for_def (length (lines a.sheet.now)) = c.before.before.rows_for.ensures ∙ ap rows_for_def
+    c.before.before.before.count_lines.ensures in
+    rw c.refused-then-out-rows_for.ensures (drill-15 a.sheet.now a.out.now a.work.now at-rows-for.before.before.if-work-ne-WORK.false
+    (room_short (length a.out.now) _ (rw m at c.before.if-out-rows_for.true)))
 
-abbrev rows-for-from-work : tie.After-work → tie.After-rows-for
+abbrev rows-for-from-work : tie.After-work-1 → tie.After-rows_for
 rows-for-from-work c = c.before.before.before.before
 
-list-requires : tie.Need-list-requires
+list-requires : tie.Need-list-n-requires
 list-requires c κs =
     let at-work = c.before.before.before in
     let at-rows-for = rows-for-from-work at-work in
@@ -37,13 +37,13 @@ list-requires c κs =
     let m : at-rows-for.rows-for.result ≡ rows_for_def (length (lines a.sheet.now)) =
     at-rows-for.rows-for.ensures ∙ ap rows_for_def at-rows-for.before.count-lines.ensures in (
       (
-        c.before.before.before.work.given ∙ at-rows-for.before.before.if1.left,
-        at-work.before.clear.ensures ∙ ap (λ (n : ℕ). replicate n 0) (sym c.before.before.before.work.given),
+        c.before.before.before.work-1.given ∙ at-rows-for.before.before.if1.left,
+        at-work.before.clear.ensures ∙ ap (λ (n : ℕ). replicate n 0) (sym c.before.before.before.work-1.given),
       ),
-      room_fits (length a.out.now) _ (rw m at at-work.before.before.before.if2.false),
+      room_fits (length a.out.now) _ (rw m at at-work.before.before.before.if-out-rows_for.false),
     )
 
-returns-3 : tie.Need-returns-3
+returns-3 : tie.Need-returns
 returns-3 c =
     let at-work2 = c.before.before.before.before.before in
     let at-work = at-work2.before.before.before.before.before.before.before in
@@ -52,9 +52,9 @@ returns-3 c =
     let m : at-rows-for.rows-for.result ≡ rows_for_def (length (lines a.sheet.now)) =
     at-rows-for.rows-for.ensures ∙ ap rows_for_def at-rows-for.before.count-lines.ensures in
     drill-0 a.sheet.now a.out.now a.work.now at-rows-for.before.before.if1.left (room_fits (length a.out.now) _
-    (rw m at at-work.before.before.before.if2.false)) at-work2.before.before.before.list.ensures
-    (c.before.before.clear2.ensures ∙ ap (λ (n : ℕ). replicate n 0) (at-work2.work2.given ∙ at-work.work.given))
+    (rw m at at-work.before.before.before.if-out-rows_for.false)) at-work2.before.before.before.list-n.ensures
+    (c.before.before.clear-2.ensures ∙ ap (λ (n : ℕ). replicate n 0) (at-work2.work-2-1.given ∙ at-work.work-1.given))
 
-pub drill-spec : {M : Type 1} → statement M
-drill-spec = tie.close (tie.spec (λ c κs. search rules) returns (λ c κs. search rules) (λ c κs. search rules) (λ c κs. search rules) returns-2
+pub drill_spec : {M : Type 1} → statement M
+drill_spec = tie.close (tie.spec (λ c κs. search rules) returns (λ c κs. search rules) (λ c κs. search rules) (λ c κs. search rules) returns-2
     (λ c κs. search rules) list-requires (λ c κs. search rules) (λ c. search rules) (λ c. search rules) returns-3)

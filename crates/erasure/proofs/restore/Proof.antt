@@ -25,10 +25,10 @@ use Rattle.erasure.proofs.restore.Tie as tie
 -- ---- past the refusal
 
 -- Places far back, each named once: the place, and from where it is seen.
-abbrev start-from-else1 : tie.Else1 → tie.Start
+abbrev start-from-else1 : tie.Else-number-ne0 → tie.Start
 start-from-else1 c = c.before.before.before.before.before
 
-module _ (c : tie.Else1) where
+module _ (c : tie.Else-number-ne0) where
   abbrev t : ℕ
   t = (start-from-else1 c).args.t
 
@@ -45,26 +45,26 @@ module _ (c : tie.Else1) where
   out = (start-from-else1 c).args.out.now
 
   none_applies : first_of (argument_checks t n servers (length fragments) (length out)) ≡ 0
-  none_applies = sym c.before.restore-refusal.ensures ∙ c.if1.false
+  none_applies = sym c.before.restore_refusal-number.ensures ∙ c.if-number-ne0.false
 
   ok : Restores t n servers (length fragments) (length out)
   ok = restores t n servers (length fragments) (length out) none_applies
 
-threshold-are : (c : tie.After-threshold-of) → c.threshold-of.result ≡ t c.before + 1
+threshold-are : (c : tie.After-threshold_of-k) → c.threshold_of-k.result ≡ t c.before + 1
 unfolding shelf
-threshold-are c = c.threshold-of.ensures
+threshold-are c = c.threshold_of-k.ensures
 
 -- ---- k servers are chosen, or fewer
 
-module _ (c : tie.After-select) where
-  abbrev past : tie.Else1
+module _ (c : tie.After-select-c) where
+  abbrev past : tie.Else-number-ne0
   past = c.before.before
 
   abbrev k : ℕ
-  k = c.before.threshold-of.result
+  k = c.before.threshold_of-k.result
 
   abbrev chosen : Chosen
-  chosen = c.select.result
+  chosen = c.select-c.result
 
   k-is : k ≡ t past + 1
   k-is = threshold-are c.before
@@ -79,73 +79,73 @@ module _ (c : tie.After-select) where
   servers-length = search rules
 
   counted_is : length (first_different k (servers past)) ≡ chosen.count
-  counted_is = counted k (servers past) chosen c.select.ensures k-most at_length servers-length
+  counted_is = counted k (servers past) chosen c.select-c.ensures k-most at_length servers-length
 
   module _ (full : k ≤ chosen.count) where
     -- what was chosen, for the laws: k of the servers given
     all-chosen : chosen.count ≡ k
-    all-chosen = omega (arith, full, c.select.ensures.room)
+    all-chosen = omega (arith, full, c.select-c.ensures.room)
 
     different : AllDifferent k chosen.servers
-    different = differ k (servers past) chosen c.select.ensures k-most at_length servers-length full
+    different = differ k (servers past) chosen c.select-c.ensures k-most at_length servers-length full
 
     numbers-in : (j : ℕ) → j < k → (1 ≤ get_or chosen.servers j 0) × (get_or chosen.servers j 0 ≤ (shelf (t past)).servers)
     numbers-in =
-        number_in k (servers past) chosen c.select.ensures k-most at_length servers-length full (shelf (t past)).servers
+        number_in k (servers past) chosen c.select-c.ensures k-most at_length servers-length full (shelf (t past)).servers
         (ok past).numbers
 
     fitting : (f given : ℕ) → given ≡ length (servers past) * f → (j : ℕ) → j < k → get_or chosen.at j 0 * f + f ≤ given
-    fitting = fit k (servers past) chosen c.select.ensures k-most at_length servers-length full
+    fitting = fit k (servers past) chosen c.select-c.ensures k-most at_length servers-length full
 
 -- ---- the table that is lent is the shelf's
 
-module _ (c : tie.After-servers-of) where
-  abbrev select : tie.After-select
+module _ (c : tie.After-servers_of-s) where
+  abbrev select : tie.After-select-c
   select = c.before.before.before
 
   full : k select ≤ (chosen select).count
   full = search rules
 
-  table : Lent (t (past select)) c.servers-of.result c.before.numbered.result
-  table = lent (t (past select)) c.servers-of.result c.before.numbered.result (ok (past select)).faults c.servers-of.ensures
-      c.before.numbered.ensures
+  table : Lent (t (past select)) c.servers_of-s.result c.before.numbered-points.result
+  table = lent (t (past select)) c.servers_of-s.result c.before.numbered-points.result (ok (past select)).faults c.servers_of-s.ensures
+      c.before.numbered-points.ensures
 
 -- ---- the needs
 
-returns : tie.Need-returns
+returns : tie.Need-returns-then-number-ne0
 returns c =
     let args = c.before.before.before.before.before.before.args in
-    let r = c.before.before.restore-refusal in
+    let r = c.before.before.restore_refusal-number in
     let servers = args.servers.now in
     let fragments = args.fragments.now in
     let out = args.out.now in
-    let taken = c.before.if1.true in
+    let taken = c.before.if-number-ne0.true in
     rw c.refused.ensures (sym (restore-refused args.t args.length servers fragments out r.result
     (refused_arguments args.t args.length servers fragments out r.result r.ensures taken) taken))
 
-threshold-of-requires : tie.Need-threshold-of-requires
+threshold-of-requires : tie.Need-threshold_of-k-requires
 threshold-of-requires c κs = (ok c).faults.1
 
-select-requires : tie.Need-select-requires
+select-requires : tie.Need-select-c-requires
 unfolding shelf
 select-requires c κs =
     let p = c.before in
     (omega (arith, threshold-are c, (ok p).faults.1), λ i h. omega (arith, (ok p).faults.1, ((ok p).numbers i h).1))
 
-returns-2 : tie.Need-returns-2
+returns-2 : tie.Need-returns-then-count-k
 returns-2 c =
     let at = c.before.before in
     let p = past at in
     let few : length (first_different (shelf (t p)).threshold (servers p)) < (shelf (t p)).threshold =
-    subst (λ (x : ℕ). length (first_different x (servers p)) < x) at.before.threshold-of.ensures
-    (omega (arith, counted_is at, c.before.if2.true)) in
-    rw c.refused2.ensures (sym (restore-refused (t p) (n p) (servers p) (fragments p) (out p) 16
+    subst (λ (x : ℕ). length (first_different x (servers p)) < x) at.before.threshold_of-k.ensures
+    (omega (arith, counted_is at, c.before.if-count-k.true)) in
+    rw c.refused-then-count-k.ensures (sym (restore-refused (t p) (n p) (servers p) (fragments p) (out p) 16
     (refused-few (t p) (n p) (servers p) (fragments p) (out p) (none_applies p) few) (suc-ne-zero 15)))
 
-servers-of-requires : tie.Need-servers-of-requires
+servers-of-requires : tie.Need-servers_of-s-requires
 servers-of-requires c κs = (ok (past c.before.before)).faults.1
 
-part_end : tie.Need-slice-bounds-rebuild-end
+part_end : tie.Need-slice_bounds-rebuild-end
 part_end c = (table c.before).enough
 
 size-requires : tie.Need-size-requires
@@ -154,7 +154,7 @@ size-requires c κs =
     (omega (arith, k-is at), k-most at, (ok (past at)).bytes)
 
 -- Places far back, each named once: the place, and from where it is seen.
-abbrev servers-of-from-size : tie.After-size → tie.After-servers-of
+abbrev servers-of-from-size : tie.After-size → tie.After-servers_of-s
 servers-of-from-size c = c.before.before.before
 
 rebuild-requires : tie.Need-rebuild-requires
@@ -182,7 +182,7 @@ rebuild-requires c κs =
           (omega (arith, all, h)),
     )
 
-returns-3 : tie.Need-returns-3
+returns-3 : tie.Need-returns
 unfolding restored_bytes
 returns-3 c =
     let at_size = c.before.before.before.before in
@@ -206,7 +206,7 @@ returns-3 c =
     ∙ sym (restore-accepted (t p) (n p) (servers p) (fragments p) (out p) (refused_none (t p) (n p) (servers p) (fragments p) (out p) (none_applies p)
     enough))
 
-pub restore-spec : {M : Type 1} → statement M
-restore-spec = tie.close (tie.spec (λ c κs. search rules) (λ c κs. search rules) returns threshold-of-requires select-requires (λ c κs. search rules)
+pub restore_spec : {M : Type 1} → statement M
+restore_spec = tie.close (tie.spec (λ c κs. search rules) (λ c κs. search rules) returns threshold-of-requires select-requires (λ c κs. search rules)
     returns-2 (λ c κs. search rules) servers-of-requires (λ c. search rules) (λ c. omega arith) part_end size-requires rebuild-requires
     (λ c. search rules) returns-3)

@@ -22,10 +22,10 @@ use Rattle.erasure.proofs.weights.Tie as tie
 -- ---- past the refusal
 
 -- Places far back, each named once: the place, and from where it is seen.
-abbrev start-from-else1 : tie.Else1 → tie.Start
+abbrev start-from-else1 : tie.Else-number-ne0 → tie.Start
 start-from-else1 c = c.before.before.before
 
-module _ (c : tie.Else1) where
+module _ (c : tie.Else-number-ne0) where
   abbrev t : ℕ
   t = (start-from-else1 c).args.t
 
@@ -33,26 +33,26 @@ module _ (c : tie.Else1) where
   servers = (start-from-else1 c).args.servers.now
 
   none_applies : first_of (weights_checks t servers) ≡ 0
-  none_applies = sym c.before.weights-refusal.ensures ∙ c.if1.false
+  none_applies = sym c.before.weights_refusal-number.ensures ∙ c.if-number-ne0.false
 
   ok : Named t servers
   ok = named t servers none_applies
 
-threshold-are : (c : tie.After-threshold-of) → c.threshold-of.result ≡ t c.before + 1
+threshold-are : (c : tie.After-threshold_of-k) → c.threshold_of-k.result ≡ t c.before + 1
 unfolding shelf
-threshold-are c = c.threshold-of.ensures
+threshold-are c = c.threshold_of-k.ensures
 
 -- ---- k servers are chosen, or fewer
 
-module _ (c : tie.After-select) where
-  abbrev past : tie.Else1
+module _ (c : tie.After-select-c) where
+  abbrev past : tie.Else-number-ne0
   past = c.before.before
 
   abbrev k : ℕ
-  k = c.before.threshold-of.result
+  k = c.before.threshold_of-k.result
 
   abbrev chosen : Chosen
-  chosen = c.select.result
+  chosen = c.select-c.result
 
   k-is : k ≡ t past + 1
   k-is = threshold-are c.before
@@ -67,70 +67,70 @@ module _ (c : tie.After-select) where
   servers-length = search rules
 
   counted_is : length (first_different k (servers past)) ≡ chosen.count
-  counted_is = counted k (servers past) chosen c.select.ensures k-most at_length servers-length
+  counted_is = counted k (servers past) chosen c.select-c.ensures k-most at_length servers-length
 
   module _ (full : k ≤ chosen.count) where
     -- what was chosen, for the laws: k of the servers given
     all-chosen : chosen.count ≡ k
-    all-chosen = omega (arith, full, c.select.ensures.room)
+    all-chosen = omega (arith, full, c.select-c.ensures.room)
 
     different : AllDifferent k chosen.servers
-    different = differ k (servers past) chosen c.select.ensures k-most at_length servers-length full
+    different = differ k (servers past) chosen c.select-c.ensures k-most at_length servers-length full
 
     numbers-in : (j : ℕ) → j < k → (1 ≤ get_or chosen.servers j 0) × (get_or chosen.servers j 0 ≤ (shelf (t past)).servers)
     numbers-in =
-        number_in k (servers past) chosen c.select.ensures k-most at_length servers-length full (shelf (t past)).servers
+        number_in k (servers past) chosen c.select-c.ensures k-most at_length servers-length full (shelf (t past)).servers
         (ok past).numbers
 
 -- ---- the table that is lent is the shelf's
 
-module _ (c : tie.After-servers-of) where
-  abbrev select : tie.After-select
+module _ (c : tie.After-servers_of-s) where
+  abbrev select : tie.After-select-c
   select = c.before.before.before
 
   full : k select ≤ (chosen select).count
   full = search rules
 
-  table : Lent (t (past select)) c.servers-of.result c.before.numbered.result
-  table = lent (t (past select)) c.servers-of.result c.before.numbered.result (ok (past select)).faults c.servers-of.ensures
-      c.before.numbered.ensures
+  table : Lent (t (past select)) c.servers_of-s.result c.before.numbered-points.result
+  table = lent (t (past select)) c.servers_of-s.result c.before.numbered-points.result (ok (past select)).faults c.servers_of-s.ensures
+      c.before.numbered-points.ensures
 
 -- ---- the needs
 
-returns : tie.Need-returns
+returns : tie.Need-returns-then-number-ne0
 returns c =
     let args = c.before.before.before.before.args in
-    let r = c.before.before.weights-refusal in
+    let r = c.before.before.weights_refusal-number in
     let servers = args.servers.now in
-    c.no-weights.ensures
-    ∙ sym (weights-refused args.t servers r.result (refused-servers args.t servers r.result r.ensures c.before.if1.true)
-    c.before.if1.true)
+    c.no_weights.ensures
+    ∙ sym (weights-refused args.t servers r.result (refused-servers args.t servers r.result r.ensures c.before.if-number-ne0.true)
+    c.before.if-number-ne0.true)
 
-threshold-of-requires : tie.Need-threshold-of-requires
+threshold-of-requires : tie.Need-threshold_of-k-requires
 threshold-of-requires c κs = (ok c).faults.1
 
-select-requires : tie.Need-select-requires
+select-requires : tie.Need-select-c-requires
 unfolding shelf
 select-requires c κs =
     let p = c.before in
     (omega (arith, threshold-are c, (ok p).faults.1), λ i h. omega (arith, (ok p).faults.1, ((ok p).numbers i h).1))
 
-returns-2 : tie.Need-returns-2
+returns-2 : tie.Need-returns-then-count-k
 returns-2 c =
     let at = c.before.before in
     let p = past at in
     let few : length (first_different (shelf (t p)).threshold (servers p)) < (shelf (t p)).threshold =
-    subst (λ (x : ℕ). length (first_different x (servers p)) < x) at.before.threshold-of.ensures
-    (omega (arith, counted_is at, c.before.if2.true)) in
-    c.no-weights2.ensures ∙ sym (weights-refused (t p) (servers p) 16 (refused_as-few (t p) (servers p) (none_applies p) few) (suc-ne-zero 15))
+    subst (λ (x : ℕ). length (first_different x (servers p)) < x) at.before.threshold_of-k.ensures
+    (omega (arith, counted_is at, c.before.if-count-k.true)) in
+    c.no_weights-then-count-k.ensures ∙ sym (weights-refused (t p) (servers p) 16 (refused_as-few (t p) (servers p) (none_applies p) few) (suc-ne-zero 15))
 
-servers-of-requires : tie.Need-servers-of-requires
+servers-of-requires : tie.Need-servers_of-s-requires
 servers-of-requires c κs = (ok (past c.before.before)).faults.1
 
-part_end : tie.Need-slice-bounds-of-chosen-end
+part_end : tie.Need-slice_bounds-of_chosen-end
 part_end c = (table c.before).enough
 
-of-chosen-requires : tie.Need-of-chosen-requires
+of-chosen-requires : tie.Need-of_chosen-rows-requires
 unfolding shelf
 of-chosen-requires c κs =
     let at = c.before.before in
@@ -149,14 +149,14 @@ of-chosen-requires c κs =
 used-requires : tie.Need-used-requires
 used-requires c κs = let at = c.before.before.before in let s = select at in omega (arith, all-chosen s (full at), k-most s)
 
-returns-3 : tie.Need-returns-3
+returns-3 : tie.Need-returns
 unfolding used_servers used_weights
 returns-3 c =
     let at-of-chosen = c.before in
     let at = at-of-chosen.before.before.before in
     let s = select at in
     let p = past s in
-    let points = take (at.servers-of.result - 0) at.before.numbered.result in
+    let points = take (at.servers_of-s.result - 0) at.before.numbered-points.result in
     let threshold : k s ≡ (shelf (t p)).threshold = s.before.threshold-of.ensures in
     let enough : (shelf (t p)).threshold ≤ length (first_different (shelf (t p)).threshold (servers p)) =
     subst (λ (x : ℕ). x ≤ length (first_different x (servers p))) threshold (omega (arith, counted_is s, full at)) in
@@ -173,12 +173,12 @@ returns-3 c =
       rows = weight_rows (shelf (t p)).points m (map (point_of (shelf (t p)).points) (servers_at (servers p) (first_different m (servers p))))
           ++ replicate (rows_room - m * m) 0;
     } in
-    ap₂ (λ (u r : List ℕ). record { number = 0; count = k s; servers = u; rows = r }) c.used.ensures at-of-chosen.of-chosen.ensures
+    ap₂ (λ (u r : List ℕ). record { number = 0; count = k s; servers = u; rows = r }) c.used.ensures at-of-chosen.of_chosen-rows.ensures
     ∙ ap₂ (λ (m : ℕ) (l : List ℕ). answer points m l) (all-chosen s (full at)) s.select.ensures.servers-is
     ∙ ap (λ (all : List ℕ). answer all (k s) (servers_at (servers p) (first_different (k s) (servers p)))) (table at).points
     ∙ ap final threshold
     ∙ sym (weights-accepted (t p) (servers p) (not-refused (t p) (servers p) (none_applies p) enough))
 
-pub weights-spec : {M : Type 1} → statement M
-weights-spec = tie.close (tie.spec (λ c κs. search rules) (λ c κs. search rules) returns threshold-of-requires select-requires (λ c κs. search rules)
+pub weights_spec : {M : Type 1} → statement M
+weights_spec = tie.close (tie.spec (λ c κs. search rules) (λ c κs. search rules) returns threshold-of-requires select-requires (λ c κs. search rules)
     returns-2 (λ c κs. search rules) servers-of-requires (λ c. search rules) (λ c. omega arith) part_end of-chosen-requires used-requires returns-3)

@@ -13,5 +13,5 @@ returns c =
     let a = c.before.args.a in
     ap (λ (m : ℕ). bit_xor (a * 2 % 256) (bit_and m 27)) c.mask.ensures ∙ double_all a (omega arith)
 
-pub double-spec : {M : Type 1} → statement M
-double-spec = tie.close (tie.spec (λ c κs. search rules) returns)
+pub double_spec : {M : Type 1} → statement M
+double_spec = tie.close (tie.spec (λ c κs. search rules) returns)

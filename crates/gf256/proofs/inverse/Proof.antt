@@ -7,14 +7,14 @@ use borrow.Author.Rules.{rules}
 use Rattle.gf256.proofs.inverse.Statement.{statement}
 use Rattle.gf256.proofs.inverse.Tie as tie
 
-returns : tie.Need-returns
-returns c = sym (ap inverse c.if1.true ∙ inverse-zero)
+returns : tie.Need-returns-then-a-eq0
+returns c = sym (ap inverse c.if-a-eq0.true ∙ inverse-zero)
 
-returns-2 : tie.Need-returns-2
+returns-2 : tie.Need-returns
 returns-2 c =
-    c.power-of.ensures
-    ∙ inverse_of-log c.before.before.before.args.a c.before.log-of.result (omega arith) (omega arith) c.before.log-of.ensures.0
-    c.before.log-of.ensures.1
+    c.power_of.ensures
+    ∙ inverse_of-log c.before.before.before.args.a c.before.log_of.result (omega arith) (omega arith) c.before.log_of.ensures.0
+    c.before.log_of.ensures.1
 
-pub inverse-spec : {M : Type 1} → statement M
-inverse-spec = tie.close (tie.spec returns (λ c κs. search rules) (λ c. search rules) (λ c κs. search rules) returns-2)
+pub inverse_spec : {M : Type 1} → statement M
+inverse_spec = tie.close (tie.spec returns (λ c κs. search rules) (λ c. search rules) (λ c κs. search rules) returns-2)

@@ -11,19 +11,19 @@ use borrow.Author.Rules.{rules}
 use Rattle.gf256.proofs.mul.Statement.{statement}
 use Rattle.gf256.proofs.mul.Tie as tie
 
-abbrev invariant-loop : tie.invariant-loop
+abbrev invariant-loop : tie.invariant-loop-n
 invariant-loop a b out₀ n₀ out n = (n ≤ 8) × (out ≡ times_bits n a (b / 2 ^ (8 - n)))
 
-abbrev decreases-loop : tie.decreases-loop
+abbrev decreases-loop : tie.decreases-loop-n
 decreases-loop a b out₀ n₀ out n = 8 - n
 
-loop-holds : tie.Need-loop-init invariant-loop decreases-loop
+loop-holds : tie.Need-loop-n-init invariant-loop decreases-loop
 unfolding times_bits
 loop-holds c = (search rules, refl)
 
-loop-again : tie.Need-loop-preserved invariant-loop decreases-loop
+loop-again : tie.Need-loop-n-preserved invariant-loop decreases-loop
 loop-again c =
-    let l = c.before.before.before.loop in
+    let l = c.before.before.before.loop-n in
     let args = c.before.before.before.before.args in
     let i : ℕ = 7 - l.n in
     let up : i + 1 ≡ 8 - l.n = omega arith in
@@ -40,11 +40,11 @@ loop-again c =
 returns : tie.Need-returns invariant-loop decreases-loop
 unfolding times
 returns c =
-    let l = c.before.loop in
+    let l = c.before.loop-n in
     let args = c.before.before.args in
     let e : l.n ≡ 8 = omega arith in
     subst (λ (n : ℕ). l.out ≡ times_bits n args.a (args.b / 2 ^ (8 - n))) e l.invariant.1 ∙ ap (times_bits 8 args.a) (div-one args.b)
 
-pub mul-spec : {M : Type 1} → statement M
-mul-spec = tie.close (tie.spec invariant-loop decreases-loop loop-holds (λ c κs. search rules) (λ c. search rules) (λ c. search rules) (λ c. search rules)
+pub mul_spec : {M : Type 1} → statement M
+mul_spec = tie.close (tie.spec invariant-loop decreases-loop loop-holds (λ c κs. search rules) (λ c. search rules) (λ c. search rules) (λ c. search rules)
     (λ c κs. search rules) (λ c. search rules) (λ c. search rules) loop-again returns)

@@ -10,21 +10,21 @@ use Rattle.hmac.proofs.Laws.{copy_more}
 use Rattle.hmac.proofs.cut.Statement.{statement}
 use Rattle.hmac.proofs.cut.Tie as tie
 
-abbrev invariant-loop : tie.invariant-loop
+abbrev invariant-loop : tie.invariant-loop-i
 invariant-loop full out₀ i₀ out i = (i ≤ tag_size) × (length out ≡ tag_size) × (take i out ≡ take i full)
 
-abbrev decreases-loop : tie.decreases-loop
+abbrev decreases-loop : tie.decreases-loop-i
 decreases-loop full out₀ i₀ out i = tag_size - i
 
-loop-holds : tie.Need-loop-init invariant-loop decreases-loop
+loop-holds : tie.Need-loop-i-init invariant-loop decreases-loop
 loop-holds c = (omega arith, refl, refl)
 
-loop-less : tie.Need-loop-smaller invariant-loop decreases-loop
+loop-less : tie.Need-loop-i-smaller invariant-loop decreases-loop
 loop-less c = search rules
 
-loop-again : tie.Need-loop-preserved invariant-loop decreases-loop
+loop-again : tie.Need-loop-i-preserved invariant-loop decreases-loop
 loop-again c =
-    let at = c.before.loop in (
+    let at = c.before.loop-i in (
       omega arith,
       simp length-set at.invariant.1,
       copy_more at.i c.before.before.args.t1 at.out (omega arith) (omega arith) at.invariant.2,
@@ -32,7 +32,7 @@ loop-again c =
 
 returns : tie.Need-returns invariant-loop decreases-loop
 returns c =
-    let at = c.before.loop in
+    let at = c.before.loop-i in
     let e : at.i ≡ tag_size = omega arith in
     sym (take_all tag_size at.out (omega arith)) ∙ rw e at at.invariant.2
 

@@ -14,5 +14,5 @@ returns c =
     let e : key_block key ≡ key = short-key key (search rules) in
     cc
 
-pub prepare-spec : {M : Type 1} → statement M
-prepare-spec = tie.close (tie.spec (λ c κs. search rules) (λ c κs. search rules) (λ c κs. search rules) (λ c κs. search rules) returns)
+pub prepare_spec : {M : Type 1} → statement M
+prepare_spec = tie.close (tie.spec (λ c κs. search rules) (λ c κs. search rules) (λ c κs. search rules) (λ c κs. search rules) returns)

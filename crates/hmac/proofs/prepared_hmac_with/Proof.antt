@@ -9,5 +9,5 @@ returns : tie.Need-returns
 unfolding prepared_hmac_def
 returns c = cc
 
-pub prepared-hmac-with-spec : {M : Type 1} → statement M
-prepared-hmac-with-spec = tie.close (tie.spec (λ c κs. search rules) (λ c. search rules) (λ c κs. search rules) returns)
+pub prepared_hmac_with_spec : {M : Type 1} → statement M
+prepared_hmac_with_spec = tie.close (tie.spec (λ c κs. search rules) (λ c. search rules) (λ c κs. search rules) returns)

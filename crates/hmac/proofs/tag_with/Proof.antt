@@ -8,5 +8,5 @@ use Rattle.hmac.proofs.tag_with.Tie as tie
 returns : tie.Need-returns
 returns c = let a = c.before.before.before.args in cc (prepared-tag a.key (a.m.now ++ a.d))
 
-pub tag-with-spec : {M : Type 1} → statement M
-tag-with-spec = tie.close (tie.spec (λ c κs. search rules) (λ c κs. search rules) returns)
+pub tag_with_spec : {M : Type 1} → statement M
+tag_with_spec = tie.close (tie.spec (λ c κs. search rules) (λ c κs. search rules) returns)

@@ -17,76 +17,76 @@ use Rattle.planner.proofs.Bounds.{plenty, servers-most, candidate-most, product-
 use Rattle.planner.proofs.filters.Statement.{statement}
 use Rattle.planner.proofs.filters.Tie as tie
 
-abbrev invariant-loop : tie.invariant-loop
+abbrev invariant-loop : tie.invariant-loop-count
 invariant-loop t out₀ candidate most count₀ out count = (count ≤ most + 1) × Filled 0 (λ i v. v ≡ head_size + (1 + i * candidate)) (most_servers + 1) count out
     × ((i : ℕ) → count ≤ i → i < most_servers + 1 → get_or out i 0 ≡ 0)
 
-abbrev decreases-loop : tie.decreases-loop
+abbrev decreases-loop : tie.decreases-loop-count
 decreases-loop t out₀ candidate most count₀ out count = most + 1 - count
 
-loop-holds : tie.Need-loop-init invariant-loop decreases-loop
+loop-holds : tie.Need-loop-count-init invariant-loop decreases-loop
 loop-holds c = (search rules, filled_none refl, λ i h b. get_or-replicate (most_servers + 1) i 0 0 b)
 
 -- a place far back, named once
-abbrev start-from-servers : tie.After-servers invariant-loop decreases-loop → tie.Start invariant-loop decreases-loop
+abbrev start-from-servers : tie.After-servers-most invariant-loop decreases-loop → tie.Start invariant-loop decreases-loop
 start-from-servers c = c.before.before
 
-servers-few : (c : tie.After-servers invariant-loop decreases-loop) → c.servers.result ≤ most_servers
-servers-few c = omega (arith, c.servers.ensures, servers-most _ (start-from-servers c).requires)
+servers-few : (c : tie.After-servers-most invariant-loop decreases-loop) → c.servers-most.result ≤ most_servers
+servers-few c = omega (arith, c.servers-most.ensures, servers-most _ (start-from-servers c).requires)
 
-candidate-few : (c : tie.After-servers invariant-loop decreases-loop) → c.before.candidate-size.result ≤ plenty
-candidate-few c = omega (arith, c.before.candidate-size.ensures, candidate-most _ (start-from-servers c).requires)
+candidate-few : (c : tie.After-servers-most invariant-loop decreases-loop) → c.before.candidate_size-candidate.result ≤ plenty
+candidate-few c = omega (arith, c.before.candidate_size-candidate.ensures, candidate-most _ (start-from-servers c).requires)
 
 -- in the loop the count is S at most
-count-few : (c : tie.In-loop invariant-loop decreases-loop) → c.before.loop.count ≤ most_servers
+count-few : (c : tie.In-loop-count invariant-loop decreases-loop) → c.before.loop-count.count ≤ most_servers
 count-few c =
-    let l : c.before.loop.count ≤ c.before.before.servers.result = search rules in
+    let l : c.before.loop-count.count ≤ c.before.before.servers-most.result = search rules in
     omega (arith, l, servers-few c.before.before)
 
-product : (c : tie.In-loop invariant-loop decreases-loop) → c.before.loop.count * c.before.before.before.candidate-size.result ≤ plenty * plenty
+product : (c : tie.In-loop-count invariant-loop decreases-loop) → c.before.loop-count.count * c.before.before.before.candidate_size-candidate.result ≤ plenty * plenty
 product c = product-most _ _ (omega (arith, count-few c)) (candidate-few c.before.before)
 
-mul-out : tie.Need-overflow-mul-out invariant-loop decreases-loop
+mul-out : tie.Need-overflow_mul-out invariant-loop decreases-loop
 mul-out c = omega (arith, product c)
 
-add-out : tie.Need-overflow-add-out invariant-loop decreases-loop
+add-out : tie.Need-overflow_add-out invariant-loop decreases-loop
 add-out c = omega (arith, product c)
 
-add-out-2 : tie.Need-overflow-add-out-2 invariant-loop decreases-loop
+add-out-2 : tie.Need-overflow_add-out-in-loop-count invariant-loop decreases-loop
 add-out-2 c = omega (arith, product c)
 
-mul-out-2 : tie.Need-overflow-mul-out-2 invariant-loop decreases-loop
+mul-out-2 : tie.Need-offset_bounds-out-count invariant-loop decreases-loop
 mul-out-2 c = omega (arith, count-few c)
 
-array-write-out : tie.Need-array-write-out invariant-loop decreases-loop
+array-write-out : tie.Need-bounds-out-count invariant-loop decreases-loop
 array-write-out c = omega (arith, count-few c)
 
-loop-again : tie.Need-loop-preserved invariant-loop decreases-loop
+loop-again : tie.Need-loop-count-preserved invariant-loop decreases-loop
 loop-again c =
-    let l = c.before.loop in
+    let l = c.before.loop-count in
     let few = count-few c in (
       search rules,
       filled_more l.invariant.1 (omega (arith, few)) _ refl,
       λ i h b. get_or-set_other l.out l.count i _ 0 (λ e. omega arith) ∙ l.invariant.2 i (omega arith) b,
     )
 
-at : (c : tie.After-loop invariant-loop decreases-loop) (i : ℕ) → i < most_servers + 1 → Dec (i ≤ c.before.before.servers.result)
-    → get_or c.before.loop.out i 0 ≡ filter_size (shelf (start-from-servers c.before.before).args.t) i
+at : (c : tie.After-loop-count invariant-loop decreases-loop) (i : ℕ) → i < most_servers + 1 → Dec (i ≤ c.before.before.servers-most.result)
+    → get_or c.before.loop-count.out i 0 ≡ filter_size (shelf (start-from-servers c.before.before).args.t) i
 at c i b (yes h) =
     let at-servers = c.before.before in
-    c.before.loop.invariant.1.each i (omega (arith, c.before.loop.invariant.0))
-    ∙ ap (λ (n : ℕ). head_size + (1 + i * n)) at-servers.before.candidate-size.ensures
-    ∙ sym (filter-fits (shelf (start-from-servers at-servers).args.t) i (omega (arith, at-servers.servers.ensures)))
+    c.before.loop-count.invariant.1.each i (omega (arith, c.before.loop-count.invariant.0))
+    ∙ ap (λ (n : ℕ). head_size + (1 + i * n)) at-servers.before.candidate_size-candidate.ensures
+    ∙ sym (filter-fits (shelf (start-from-servers at-servers).args.t) i (omega (arith, at-servers.servers-most.ensures)))
 at c i b (no h) =
     let at-servers = c.before.before in
-    c.before.loop.invariant.2 i (omega (arith, c.before.loop.invariant.0)) b
-    ∙ sym (filter_none (shelf (start-from-servers at-servers).args.t) i (omega (arith, at-servers.servers.ensures)))
+    c.before.loop-count.invariant.2 i (omega (arith, c.before.loop-count.invariant.0)) b
+    ∙ sym (filter_none (shelf (start-from-servers at-servers).args.t) i (omega (arith, at-servers.servers-most.ensures)))
 
 returns : tie.Need-returns invariant-loop decreases-loop
 returns c =
-    table_is (most_servers + 1) c.before.loop.out (filter_size (shelf (start-from-servers c.before.before).args.t))
-    c.before.loop.invariant.1.size (λ i b. at c i b (dec_le i c.before.before.servers.result))
+    table_is (most_servers + 1) c.before.loop-count.out (filter_size (shelf (start-from-servers c.before.before).args.t))
+    c.before.loop-count.invariant.1.size (λ i b. at c i b (dec_le i c.before.before.servers-most.result))
 
-pub filters-spec : {M : Type 1} → statement M
-filters-spec = tie.close (tie.spec invariant-loop decreases-loop (λ c κs. search rules) (λ c κs. search rules) loop-holds mul-out add-out add-out-2 mul-out-2
+pub filters_spec : {M : Type 1} → statement M
+filters_spec = tie.close (tie.spec invariant-loop decreases-loop (λ c κs. search rules) (λ c κs. search rules) loop-holds mul-out add-out add-out-2 mul-out-2
     array-write-out (λ c. omega (arith, count-few c)) (λ c. search rules) loop-again returns)

@@ -11,7 +11,7 @@ use Rattle.planner.proofs.plan.Tie as tie
 
 -- ---- past the refusal
 
-module _ (c : tie.Else1) where
+module _ (c : tie.Else-number-ne0) where
   abbrev t : ℕ
   t = c.before.before.args.t
 
@@ -25,24 +25,24 @@ module _ (c : tie.Else1) where
   stores = c.before.before.args.stores
 
   none_applies : plan_refusal_def t n readers stores ≡ 0
-  none_applies = sym c.before.plan-refusal.ensures ∙ c.if1.false
+  none_applies = sym c.before.plan_refusal-number.ensures ∙ c.if-number-ne0.false
 
   ok : Plans t n readers stores
   ok = plans t n readers stores none_applies
 
 -- ---- the needs
 
-returns : tie.Need-returns
+returns : tie.Need-returns-then-number-ne0
 returns c =
     let args = c.before.before.args in
-    let r = c.before.plan-refusal in
-    sym (plan-refused args.t args.length args.readers args.stores (λ e. c.if1.true (r.ensures ∙ e))
+    let r = c.before.plan_refusal-number in
+    sym (plan-refused args.t args.length args.readers args.stores (λ e. c.if-number-ne0.true (r.ensures ∙ e))
     ∙ ap no_plan (sym r.ensures))
 
-cast-faults : tie.Need-overflow-cast-faults
+cast-faults : tie.Need-overflow_cast-faults
 cast-faults c = omega (arith, (ok c).faults)
 
-cast-size : tie.Need-overflow-cast-size
+cast-size : tie.Need-overflow_cast-size
 cast-size c = omega (arith, (ok c).bytes)
 
 kinds-requires : tie.Need-kinds-requires
@@ -60,7 +60,7 @@ packets-requires c κs = let p = ok c.before.before.before in (p.faults.1, p.tog
 memory-requires : tie.Need-memory-requires
 memory-requires c κs = let p = ok c.before.before.before.before in (p.faults.1, p.bytes, p.kept)
 
-returns-2 : tie.Need-returns-2
+returns-2 : tie.Need-returns
 returns-2 c =
     let at-packets = c.before in
     let at-filters = at-packets.before.before in
@@ -76,6 +76,6 @@ returns-2 c =
     })
     ∙ sym (plan-made (t past) (n past) (readers past) (stores past) (none_applies past))
 
-pub plan-spec : {M : Type 1} → statement M
-plan-spec = tie.close (tie.spec (λ c κs. search rules) returns cast-faults cast-size kinds-requires filters-requires held-requires packets-requires
+pub plan_spec : {M : Type 1} → statement M
+plan_spec = tie.close (tie.spec (λ c κs. search rules) returns cast-faults cast-size kinds-requires filters-requires held-requires packets-requires
     memory-requires returns-2)

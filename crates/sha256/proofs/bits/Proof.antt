@@ -9,19 +9,19 @@ use borrow.Author.Rules.{rules}
 use Rattle.sha256.proofs.bits.Statement.{statement}
 use Rattle.sha256.proofs.bits.Tie as tie
 
-abbrev invariant-loop : tie.invariant-loop
+abbrev invariant-loop : tie.invariant-loop-i
 invariant-loop n out₀ i₀ out i = (i ≤ 8) × (length out ≡ 8) × (take i out ≡ tab i (λ k. n * 8 % 2 ^ 64 / 2 ^ (8 * (8 - suc k)) % 256))
 
-abbrev decreases-loop : tie.decreases-loop
+abbrev decreases-loop : tie.decreases-loop-i
 decreases-loop n out₀ i₀ out i = 8 - i
 
-loop-holds : tie.Need-loop-init invariant-loop decreases-loop
+loop-holds : tie.Need-loop-i-init invariant-loop decreases-loop
 unfolding tab
 loop-holds c = (omega arith, refl, refl)
 
-loop-again : tie.Need-loop-preserved invariant-loop decreases-loop
+loop-again : tie.Need-loop-i-preserved invariant-loop decreases-loop
 loop-again c =
-    let at = c.before.loop in
+    let at = c.before.loop-i in
     let e : 7 - at.i ≡ 8 - suc at.i = omega arith in (
       omega arith,
       search rules,
@@ -31,8 +31,8 @@ loop-again c =
 
 returns : tie.Need-returns invariant-loop decreases-loop
 unfolding big_endian
-returns c = let e : c.before.loop.i ≡ 8 = omega arith in tab_all 8 _ _ c.before.loop.invariant.1 (rw e at c.before.loop.invariant.2)
+returns c = let e : c.before.loop-i.i ≡ 8 = omega arith in tab_all 8 _ _ c.before.loop-i.invariant.1 (rw e at c.before.loop-i.invariant.2)
 
-pub bits-spec : {M : Type 1} → statement M
-bits-spec = tie.close (tie.spec invariant-loop decreases-loop loop-holds (λ c. search rules) (λ c. search rules) (λ c. search rules) (λ c. search rules)
+pub bits_spec : {M : Type 1} → statement M
+bits_spec = tie.close (tie.spec invariant-loop decreases-loop loop-holds (λ c. search rules) (λ c. search rules) (λ c. search rules) (λ c. search rules)
     (λ c. search rules) (λ c. search rules) (λ c. search rules) loop-again returns)

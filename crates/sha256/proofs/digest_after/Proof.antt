@@ -8,5 +8,5 @@ returns : tie.Need-returns
 unfolding digest_after_def
 returns c = cc
 
-pub digest-after-spec : {M : Type 1} → statement M
-digest-after-spec = tie.close (tie.spec (λ c. search rules) (λ c. search rules) (λ c κs. search rules) returns)
+pub digest_after_spec : {M : Type 1} → statement M
+digest_after_spec = tie.close (tie.spec (λ c. search rules) (λ c. search rules) (λ c κs. search rules) returns)

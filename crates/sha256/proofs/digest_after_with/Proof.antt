@@ -20,5 +20,5 @@ returns c =
     let e : 64 + length (m ++ a.t3) ≡ n = omega (arith, length-append m a.t3) in
     cc (append_assoc m a.t3 (padding n))
 
-pub digest-after-with-spec : {M : Type 1} → statement M
-digest-after-with-spec = tie.close (tie.spec (λ c. search rules) (λ c. search rules) (λ c. search rules) (λ c κs. search rules) returns)
+pub digest_after_with_spec : {M : Type 1} → statement M
+digest_after_with_spec = tie.close (tie.spec (λ c. search rules) (λ c. search rules) (λ c. search rules) (λ c κs. search rules) returns)

@@ -11,10 +11,10 @@ use borrow.Author.Rules.{rules}
 use Rattle.sha256.proofs.finish.Statement.{statement}
 use Rattle.sha256.proofs.finish.Tie as tie
 
-slice-aggregate-absorb : tie.Need-slice-aggregate-absorb
+slice-aggregate-absorb : tie.Need-slice_bounds-absorb-end
 slice-aggregate-absorb c = simp length-take (omega arith)
 
-slice-aggregate-absorb-2 : tie.Need-slice-aggregate-absorb-2
+slice-aggregate-absorb-2 : tie.Need-slice_bounds-absorb-end-2
 slice-aggregate-absorb-2 c = simp length-take (omega arith)
 
 returns : tie.Need-returns
@@ -25,8 +25,8 @@ returns c =
     let w : ℕ = length m / 64 * 64 in
     let rest = take_all (length m - w) (drop w m) (omega (arith, length-drop w m)) in
     c.bytes.ensures
-    ∙ ap bytes_of c.before.absorb2.ensures
-    ∙ finished _ m a.d.now _ _ _ a.n w _ refl at_tail.before.before.before.absorb.ensures rest refl (omega arith) (omega arith)
+    ∙ ap bytes_of c.before.absorb.ensures
+    ∙ finished _ m a.d.now _ _ _ a.n w _ refl at_tail.before.before.before.absorb-g.ensures rest refl (omega arith) (omega arith)
     at_tail.tail.ensures
 
 pub finish_spec : {M : Type 1} → statement M

@@ -9,31 +9,31 @@ use native.Mathlib.Omega.{arith}
 use Rattle.sha256.proofs.put.Statement.{statement}
 use Rattle.sha256.proofs.put.Tie as tie
 
-abbrev invariant-loop : tie.invariant-loop
+abbrev invariant-loop : tie.invariant-loop-k
 invariant-loop t₀ i s k₀ t k = (k ≤ length s) × ((t ≡ paste t₀ i s k) × (length t ≡ length t₀))
 
-abbrev decreases-loop : tie.decreases-loop
+abbrev decreases-loop : tie.decreases-loop-k
 decreases-loop t₀ i s k₀ t k = length s - k
 
-loop-holds : tie.Need-loop-init invariant-loop decreases-loop
+loop-holds : tie.Need-loop-k-init invariant-loop decreases-loop
 loop-holds c = (search rules, (paste-zero c.args.t.now c.args.i c.args.s.now, refl))
 
-loop-again : tie.Need-loop-preserved invariant-loop decreases-loop
+loop-again : tie.Need-loop-k-preserved invariant-loop decreases-loop
 loop-again c =
     let a = c.before.before.before.args in
-    let i = c.before.before.loop.k in (
+    let i = c.before.before.loop-k.k in (
       search rules,
       (
-        rw c.before.before.loop.invariant.1.0 (rw add-one (paste-suc a.t.now a.i a.s.now i 0 (omega arith) (omega arith))),
-        simp length-set c.before.before.loop.invariant.1.1,
+        rw c.before.before.loop-k.invariant.1.0 (rw add-one (paste-suc a.t.now a.i a.s.now i 0 (omega arith) (omega arith))),
+        simp length-set c.before.before.loop-k.invariant.1.1,
       ),
     )
 
-same_length : tie.Need-same-length invariant-loop decreases-loop
-same_length c = c.before.loop.invariant.1.1
+same_length : tie.Need-shape_of-t invariant-loop decreases-loop
+same_length c = c.before.loop-k.invariant.1.1
 
 returns : tie.Need-returns invariant-loop decreases-loop
-returns c = let e : length c.before.before.args.s.now ≡ c.before.loop.k = omega arith in rw e c.before.loop.invariant.1.0
+returns c = let e : length c.before.before.args.s.now ≡ c.before.loop-k.k = omega arith in rw e c.before.loop-k.invariant.1.0
 
 pub put_spec : {M : Type 1} → statement M
 put_spec = tie.close (tie.spec invariant-loop decreases-loop loop-holds (λ c. search rules) (λ c. search rules) (λ c. omega arith) (λ c. search rules)

@@ -15,5 +15,5 @@ returns c =
     let e : x % 256 ≡ x / 2 ^ 0 % 256 = omega arith in
     ap (λ (n : ℕ). x / 2 ^ 24 % 256 ∷ x / 2 ^ 16 % 256 ∷ x / 2 ^ 8 % 256 ∷ n ∷ []) e
 
-pub quad-spec : {M : Type 1} → statement M
-quad-spec = tie.close (tie.spec (λ c. search rules) (λ c. search rules) (λ c. search rules) (λ c. search rules) returns)
+pub quad_spec : {M : Type 1} → statement M
+quad_spec = tie.close (tie.spec (λ c. search rules) (λ c. search rules) (λ c. search rules) (λ c. search rules) returns)

@@ -17,15 +17,15 @@ returns c =
     let a = at.args in
     cc (
       tail-made a.rest.now a.d.now a.n _ _ refl refl (omega arith) (omega arith),
-      at-put4.put4.ensures,
-      at_bits.bits.ensures,
-      at-put3.put3.ensures,
-      at-put2.put2.ensures,
+      at-put4.put-4.ensures,
+      at_bits.bits-count.ensures,
+      at-put3.put-3.ensures,
+      at-put2.put-2.ensures,
       at-put.put.ensures,
       at.requires.1.0,
     )
 
-pub tail-spec : {M : Type 1} → statement M
-tail-spec = tie.close (tie.spec (λ c. search rules) (λ c κs. search rules) (λ c κs. search rules) (λ c. search rules) (λ c κs. search rules)
+pub tail_spec : {M : Type 1} → statement M
+tail_spec = tie.close (tie.spec (λ c. search rules) (λ c κs. search rules) (λ c κs. search rules) (λ c. search rules) (λ c κs. search rules)
     (λ c κs. search rules) (λ c. search rules) (λ c. search rules) (λ c. search rules) (λ c. search rules) (λ c κs. search rules)
     (λ c. search rules) returns)

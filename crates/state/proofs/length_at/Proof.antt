@@ -6,15 +6,15 @@ use Rattle.state.proofs.Laws.{length-told, length-small}
 use Rattle.state.proofs.length_at.Statement.{statement}
 use Rattle.state.proofs.length_at.Tie as tie
 
-cast-result : tie.Need-overflow-cast-result
+cast-result : tie.Need-overflow_cast-result
 cast-result c =
     let at-start = c.before.before.before in
     let small = length-small at-start.args.bytes.now c.before.rest.ensures c.number2.ensures
-    (λ k. (c.before.before.shared-slice-known.given k).fits) in
+    (λ k. (c.before.before.shared_slice_known-1.given k).fits) in
     omega (arith, small)
 
 returns : tie.Need-returns
 returns c = length-told c.before.before.before.args.bytes.now c.before.rest.ensures c.number2.ensures
 
-pub length-at-spec : {M : Type 1} → statement M
-length-at-spec = tie.close (tie.spec (λ c κs. search rules) (λ c κs. search rules) cast-result returns)
+pub length_at_spec : {M : Type 1} → statement M
+length_at_spec = tie.close (tie.spec (λ c κs. search rules) (λ c κs. search rules) cast-result returns)

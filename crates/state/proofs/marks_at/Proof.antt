@@ -13,34 +13,34 @@ use Rattle.state.specs.State.{marks_at_def, numbers_size}
 use Rattle.state.proofs.marks_at.Statement.{statement}
 use Rattle.state.proofs.marks_at.Tie as tie
 
-abbrev invariant-loop : tie.invariant-loop
+abbrev invariant-loop : tie.invariant-loop-i
 invariant-loop bytes a₀ i₀ a i = (i ≤ most_servers) × Filled 0 (λ (j v : ℕ). v ≡ get_or bytes (numbers_size + j) 0) most_servers i a
 
-abbrev decreases-loop : tie.decreases-loop
+abbrev decreases-loop : tie.decreases-loop-i
 decreases-loop bytes a₀ i₀ a i = most_servers - i
 
-returns : tie.Need-returns invariant-loop decreases-loop
+returns : tie.Need-returns-then-bytes-lt-SIZE invariant-loop decreases-loop
 unfolding marks_at_def
 returns c =
     placed-padded most_servers c.before.before.before.before.before.before.args.bytes.now numbers_size c.before.before.part.ensures
     c.before.put.ensures
 
-loop-holds : tie.Need-loop-init invariant-loop decreases-loop
+loop-holds : tie.Need-loop-i-init invariant-loop decreases-loop
 loop-holds c = (omega arith, filled_none (length-replicate {A = ℕ} most_servers 0))
 
-loop-again : tie.Need-loop-preserved invariant-loop decreases-loop
-loop-again c = (omega arith, filled_more c.before.before.loop.invariant.1 (omega arith) _ refl)
+loop-again : tie.Need-loop-i-preserved invariant-loop decreases-loop
+loop-again c = (omega arith, filled_more c.before.before.loop-i.invariant.1 (omega arith) _ refl)
 
-returns-2 : tie.Need-returns-2 invariant-loop decreases-loop
+returns-2 : tie.Need-returns invariant-loop decreases-loop
 unfolding marks_at_def
 returns-2 c =
     let d = c.before.before.before.before.args.bytes.now in
-    let v = c.before.loop.invariant in
-    ext_get_or 0 c.before.loop.a (padded most_servers (drop numbers_size d)) (v.1.size ∙ sym (padded-length most_servers (drop numbers_size d)))
+    let v = c.before.loop-i.invariant in
+    ext_get_or 0 c.before.loop-i.a (padded most_servers (drop numbers_size d)) (v.1.size ∙ sym (padded-length most_servers (drop numbers_size d)))
     (λ j h.
     let k : j < most_servers = omega (arith, v.1.size) in
     v.1.each j (omega arith) ∙ sym (get_or-drop numbers_size d j 0) ∙ sym (padded_get most_servers (drop numbers_size d) j k))
 
-pub marks-at-spec : {M : Type 1} → statement M
-marks-at-spec = tie.close (tie.spec invariant-loop decreases-loop (λ c. search rules) (λ c κs. search rules) (λ c κs. search rules) returns loop-holds
+pub marks_at_spec : {M : Type 1} → statement M
+marks_at_spec = tie.close (tie.spec invariant-loop decreases-loop (λ c. search rules) (λ c κs. search rules) (λ c κs. search rules) returns loop-holds
     (λ c. search rules) (λ c. search rules) (λ c. search rules) (λ c. search rules) (λ c. search rules) loop-again returns-2)

@@ -12,19 +12,19 @@ use Rattle.state.proofs.put.Tie as tie
 wide : (c : tie.Start) → length c.args.call.tally.marks ≡ most_servers
 wide c = search rules
 
-returns : tie.Need-returns
+returns : tie.Need-returns-then-bytes-lt-SIZE
 returns c =
     let a = c.before.before.args in
     no-state a.bytes.now a.call (wide c.before.before) (omega arith)
 
-returns-2 : tie.Need-returns-2
+returns-2 : tie.Need-returns
 returns-2 c =
     let at-put = c.before.before.before.before.before.before.before in
     let at-numbers-of = at-put.before.before.before.before.before in
     let at-start = at-numbers-of.before.before.before in
     let a = at-start.args in
     state_put a.bytes.now a.call (wide at-start) (omega arith)
-    (rw (sym at-numbers-of.Numbers-of.ensures) at-put.put.ensures) c.before.before.put2.ensures
+    (rw (sym at-numbers-of.Numbers-of.ensures) at-put.put-n.ensures) c.before.before.put.ensures
 
 pub put_spec : {M : Type 1} → statement M
 put_spec = tie.close (tie.spec returns (λ c κs. search rules) (λ c. search rules) (λ c κs. search rules) (λ c. search rules) (λ c κs. search rules)

@@ -10,13 +10,13 @@ unfolding call_at
 returns c =
     let at-number42 = c.before.before.before.before in
     rw (
-      c.tally-at.ensures,
-      c.before.length_at.ensures,
-      c.before.before.number43.ensures,
-      c.before.before.before.rest2.ensures,
-      at-number42.number42.ensures,
+      c.tally_at.ensures,
+      c.before.length_at-length.ensures,
+      c.before.before.number4-high.ensures,
+      c.before.before.before.rest-2.ensures,
+      at-number42.number4-last.ensures,
       at-number42.before.rest.ensures,
-      at-number42.before.before.number4.ensures,
+      at-number42.before.before.number4-number.ensures,
     )
 
 pub read_spec : {M : Type 1} → statement M

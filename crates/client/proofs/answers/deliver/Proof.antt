@@ -8,7 +8,7 @@ use Rattle.client.proofs.answers.deliver.Tie as tie
 returns : tie.Need-returns
 returns c =
     let a = c.before.before.before.before.before.before.before.args in
-    (rw c.enter.ensures, c.before.before.before.write-at.ensures ∙ put-over a.out.now a.content.now)
+    (rw c.enter.ensures, c.before.before.before.write_at.ensures ∙ put-over a.out.now a.content.now)
 
-pub deliver-spec : {M : Type 1} → statement M
-deliver-spec = tie.close (tie.spec (λ c κs. search rules) (λ c. search rules) (λ c κs. search rules) (λ c. search rules) returns)
+pub deliver_spec : {M : Type 1} → statement M
+deliver_spec = tie.close (tie.spec (λ c κs. search rules) (λ c. search rules) (λ c κs. search rules) (λ c. search rules) returns)

@@ -11,41 +11,41 @@ use Rattle.client.proofs.begin.begin_read_in.Tie as tie
 wide : (c : tie.Start) → length c.args.call.tally.marks ≡ most_servers
 wide c = search rules
 
-returns : tie.Need-returns
+returns : tie.Need-returns-then-kept-ne-KEPT
 returns c =
     let a = c.before.before.before.args in
-    let e = read_short a.party.t a.party.client a.call a.kept.now c.before.if1.true in
-    (rw (e, c.not-begun.ensures), rw e)
+    let e = read_short a.party.t a.party.client a.call a.kept.now c.before.if-kept-ne-KEPT.true in
+    (rw (e, c.not_begun.ensures), rw e)
 
-returns-2 : tie.Need-returns-2
+returns-2 : tie.Need-returns-then-n-ne0
 returns-2 c =
     let at-start = c.before.before.before.before.before in
     let a = at-start.args in
-    let e = read-refused a.party.t a.party.client a.call a.kept.now (wide at-start) c.before.before.before.if1.false _
-    c.before.before.read-refusal.ensures c.before.if2.true in
-    (rw (e, c.not-begun2.ensures), rw e)
+    let e = read-refused a.party.t a.party.client a.call a.kept.now (wide at-start) c.before.before.before.if-kept-ne-KEPT.false _
+    c.before.before.read_refusal-n.ensures c.before.if-n-ne0.true in
+    (rw (e, c.not_begun-then-n-ne0.ensures), rw e)
 
 -- Places far back, each named once: the place, and from where it is seen.
-abbrev start-from-else2 : tie.Else2 → tie.Start
+abbrev start-from-else2 : tie.Else-n-ne0 → tie.Start
 start-from-else2 c = c.before.before.before.before
 
-next-call-requires : tie.Need-next-call-requires
+next-call-requires : tie.Need-next_call-requires
 next-call-requires c κs =
     let at-else2 = c.before.before.before.before in
     let a = (start-from-else2 at-else2).args in
-    let z = sym at-else2.before.read-refusal.ensures ∙ at-else2.if2.false in
+    let z = sym at-else2.before.read_refusal-n.ensures ∙ at-else2.if-n-ne0.false in
     let f = read_fits a.party.t a.party.client a.call a.kept.now z in
     omega arith
 
-returns-3 : tie.Need-returns-3
+returns-3 : tie.Need-returns
 returns-3 c =
     let at-else2 = c.before.before.before.before.before in
     let at-start = start-from-else2 at-else2 in
     let a = at-start.args in
-    let z = sym at-else2.before.read-refusal.ensures ∙ at-else2.if2.false in
-    let e = read-begins a.party.t a.party.client a.call a.kept.now (wide at-start) at-else2.before.before.if1.false z in
-    (rw (e, c.next-call.ensures), rw e c.before.before.before.clear-slots.ensures)
+    let z = sym at-else2.before.read_refusal-n.ensures ∙ at-else2.if-n-ne0.false in
+    let e = read-begins a.party.t a.party.client a.call a.kept.now (wide at-start) at-else2.before.before.if-kept-ne-KEPT.false z in
+    (rw (e, c.next_call.ensures), rw e c.before.before.before.clear_slots.ensures)
 
-pub begin-read-in-spec : {M : Type 1} → statement M
-begin-read-in-spec = tie.close (tie.spec (λ c κs. search rules) returns (λ c κs. search rules) (λ c κs. search rules) returns-2 (λ c κs. search rules)
+pub begin_read_in_spec : {M : Type 1} → statement M
+begin_read_in_spec = tie.close (tie.spec (λ c κs. search rules) returns (λ c κs. search rules) (λ c κs. search rules) returns-2 (λ c κs. search rules)
     next-call-requires (λ c. search rules) returns-3)

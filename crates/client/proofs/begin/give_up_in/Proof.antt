@@ -16,19 +16,19 @@ use Rattle.client.proofs.begin.give_up_in.Tie as tie
 wide : (c : tie.Start) → length c.args.call.tally.marks ≡ most_servers
 wide c = search rules
 
-returns : tie.Need-returns
+returns : tie.Need-returns-then-n-ne0
 unfolding abort_by_rounds
 returns c =
     let a = c.before.before.before.args in
-    let e = c.before.abort-refusal.ensures in
+    let e = c.before.abort_refusal-n.ensures in
     let n = abort_refusal_def (shelf a.party.t) a.party.client (awaited a.call) in
-    rw (same_abort a.party.t a.party.client a.call (wide c.before.before.before), e, refused_is n _ _ (λ z. c.if1.true (e ∙ z)))
+    rw (same_abort a.party.t a.party.client a.call (wide c.before.before.before), e, refused_is n _ _ (λ z. c.if-n-ne0.true (e ∙ z)))
 
-not-refused : (c : tie.Else1) → abort_refusal_def (shelf c.before.before.before.args.party.t) c.before.before.before.args.party.client
+not-refused : (c : tie.Else-n-ne0) → abort_refusal_def (shelf c.before.before.before.args.party.t) c.before.before.before.args.party.client
     (awaited c.before.before.before.args.call) ≡ 0
-not-refused c = sym c.before.abort-refusal.ensures ∙ c.if1.false
+not-refused c = sym c.before.abort_refusal-n.ensures ∙ c.if-n-ne0.false
 
-returns-2 : tie.Need-returns-2
+returns-2 : tie.Need-returns-then-round-eq-COMPLETE
 unfolding abort_by_rounds
 returns-2 c =
     let at-start = c.before.before.before.before.before.before in
@@ -36,12 +36,12 @@ returns-2 c =
     rw (
       same_abort a.party.t a.party.client a.call (wide at-start),
       not-refused c.before.before.before,
-      eq-eqb a.call.tally.round 3 c.if2.true,
-      c.before.with-tally.ensures,
-      c.before.before.fresh-tally.ensures,
+      eq-eqb a.call.tally.round 3 c.if-round-eq-COMPLETE.true,
+      c.before.with_tally-c.ensures,
+      c.before.before.fresh_tally.ensures,
     )
 
-returns-3 : tie.Need-returns-3
+returns-3 : tie.Need-returns
 unfolding abort_by_rounds
 returns-3 c =
     let at-start = c.before.before.before.before.before.before in
@@ -49,10 +49,10 @@ returns-3 c =
     rw (
       same_abort a.party.t a.party.client a.call (wide at-start),
       not-refused c.before.before.before,
-      ne_eqb a.call.tally.round 3 c.if2.false,
-      c.before.with-tally.ensures,
-      c.before.before.fresh-tally.ensures,
+      ne_eqb a.call.tally.round 3 c.if-round-eq-COMPLETE.false,
+      c.before.with_tally-c.ensures,
+      c.before.before.fresh_tally.ensures,
     )
 
-pub give-up-in-spec : {M : Type 1} → statement M
-give-up-in-spec = tie.close (tie.spec (λ c κs. search rules) returns (λ c κs. search rules) (λ c κs. search rules) returns-2 returns-3)
+pub give_up_in_spec : {M : Type 1} → statement M
+give_up_in_spec = tie.close (tie.spec (λ c κs. search rules) returns (λ c κs. search rules) (λ c κs. search rules) returns-2 returns-3)

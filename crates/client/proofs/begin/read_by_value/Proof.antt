@@ -11,8 +11,8 @@ returns : tie.Need-returns
 returns c =
     let a = c.before.before.args in
     let e = core_read_lem a.party.t a.party.client a.call a.kept.now (search rules) in
-    let r = c.begin-read-in.ensures in
+    let r = c.begin_read_in.ensures in
     (r.0 ∙ ap started e, r.1 ∙ ap (λ (x : Begun). x.kept) e)
 
-pub read-by-value-spec : {M : Type 1} → statement M
-read-by-value-spec = tie.close (tie.spec (λ c κs. search rules) returns)
+pub read_by_value_spec : {M : Type 1} → statement M
+read_by_value_spec = tie.close (tie.spec (λ c κs. search rules) returns)

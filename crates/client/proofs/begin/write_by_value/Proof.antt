@@ -11,8 +11,8 @@ returns : tie.Need-returns
 returns c =
     let a = c.before.before.before.args in
     let e = core_write_lem a.party.t a.party.client a.call a.kept.now a.content.now a.nonce.now (search rules) in
-    let r = c.begin-write-in.ensures in
+    let r = c.begin_write_in.ensures in
     (r.0 ∙ ap started e, r.1 ∙ ap (λ (x : Begun). x.kept) e)
 
-pub write-by-value-spec : {M : Type 1} → statement M
-write-by-value-spec = tie.close (tie.spec (λ c κs. search rules) returns)
+pub write_by_value_spec : {M : Type 1} → statement M
+write_by_value_spec = tie.close (tie.spec (λ c κs. search rules) returns)

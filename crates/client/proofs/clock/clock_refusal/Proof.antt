@@ -6,22 +6,22 @@ use borrow.Author.Rules.{rules}
 use Rattle.client.proofs.clock.clock_refusal.Statement.{statement}
 use Rattle.client.proofs.clock.clock_refusal.Tie as tie
 
-returns : tie.Need-returns
-returns c = rw (sym c.before.is-over.ensures ∙ c.if1.true)
+returns : tie.Need-returns-then-is_over
+returns c = rw (sym c.before.is_over.ensures ∙ c.if-is_over.true)
 
-returns-2 : tie.Need-returns-2
+returns-2 : tie.Need-returns-then-room-lt-CONTENT_ROOM
 returns-2 c = rw (
-  sym c.before.before.is-over.ensures ∙ c.before.if1.false,
+  sym c.before.before.is_over.ensures ∙ c.before.if-is_over.false,
   lt-ltb c.before.before.before.args.room content_room
-      c.if2.true,
+      c.if-room-lt-CONTENT_ROOM.true,
 )
 
-returns-3 : tie.Need-returns-3
+returns-3 : tie.Need-returns
 returns-3 c = rw (
-  sym c.before.before.is-over.ensures ∙ c.before.if1.false,
+  sym c.before.before.is_over.ensures ∙ c.before.if-is_over.false,
   le-ltb c.before.before.before.args.room content_room
-      c.if2.false,
+      c.if-room-lt-CONTENT_ROOM.false,
 )
 
-pub clock-refusal-spec : {M : Type 1} → statement M
-clock-refusal-spec = tie.close (tie.spec (λ c κs. search rules) returns returns-2 returns-3)
+pub clock_refusal_spec : {M : Type 1} → statement M
+clock_refusal_spec = tie.close (tie.spec (λ c κs. search rules) returns returns-2 returns-3)

@@ -8,10 +8,10 @@ use Rattle.client.proofs.clock.end_clock.Tie as tie
 returns : tie.Need-returns
 returns c =
     let at-prepare = c.before.before.before.before in (
-      c.more.ensures ∙ rw c.before.enter-store.ensures,
+      c.more.ensures ∙ rw c.before.enter_store.ensures,
       at-prepare.prepare.ensures ∙ rw (add-one at-prepare.before.before.before.args.high),
     )
 
-pub end-clock-spec : {M : Type 1} → statement M
-end-clock-spec = tie.close (tie.spec (λ c. search rules) (λ c κs. search rules) (λ c κs. search rules) (λ c κs. search rules) (λ c. search rules)
+pub end_clock_spec : {M : Type 1} → statement M
+end_clock_spec = tie.close (tie.spec (λ c. search rules) (λ c κs. search rules) (λ c κs. search rules) (λ c κs. search rules) (λ c. search rules)
     returns)

@@ -35,25 +35,25 @@ told c =
     p.1.1.1.label
     ∙ ap body_label (body_at_lem a.party.t a.party.client [] (λ i. []) a.call [] [] a.reply.now a.passed.head p.0 1 p.1.0 refl)
 
-higher-requires : tie.Need-higher-requires
+higher-requires : tie.Need-higher-high-requires
 higher-requires c κs =
     let at_rest = c.before in
     let z = at_rest.before.before.before in
     let a = z.args in
     let p = z.requires in (
-      rw at_rest.rest.ensures (omega (
+      rw at_rest.rest-body.ensures (omega (
         arith,
         clock-long a.party.t a.party.client a.call a.reply.now a.passed.head p.0
-            (λ k. (at_rest.before.shared-slice-known.given k).fits) p.1.0,
+            (λ k. (at_rest.before.shared_slice_known-1.given k).fits) p.1.0,
       )),
-      rw at_rest.rest.ensures (ap (λ (l : Label). l.number) (told z)),
+      rw at_rest.rest-body.ensures (ap (λ (l : Label). l.number) (told z)),
     )
 
 -- Places far back, each named once: the place, and from where it is seen.
-abbrev start-from-higher : tie.After-higher → tie.Start
+abbrev start-from-higher : tie.After-higher-high → tie.Start
 start-from-higher c = c.before.before.before.before.before
 
-note-reply-requires : tie.Need-note-reply-requires
+note-reply-requires : tie.Need-note_reply-noted-requires
 note-reply-requires c κs =
     let q = start-from-higher c.before.before.before in
     let a = q.args in (
@@ -61,17 +61,17 @@ note-reply-requires c κs =
       ready-server a.party.t a.party.client a.call a.reply.now a.passed.head q.pre.0,
     )
 
-is-full-requires : tie.Need-is-full-requires
+is-full-requires : tie.Need-is_full-ends-requires
 is-full-requires c κs =
     let q = start-from-higher c.before.before.before.before in
     let a = q.args in
     (ready-faults a.party.t a.party.client a.call a.reply.now a.passed.head q.pre.0).1
 
-abbrev higher-from-clock-refusal : tie.After-clock-refusal → tie.After-higher
+abbrev higher-from-clock-refusal : tie.After-clock_refusal-n → tie.After-higher-high
 higher-from-clock-refusal c = c.before.before.before.before.before.before
 
 -- what is known once the refusals are tested: the highest number, and whether the reply ends the round
-module _ (c : tie.After-clock-refusal) where
+module _ (c : tie.After-clock_refusal-n) where
   abbrev start : tie.Start
   start = start-from-higher (higher-from-clock-refusal c)
 
@@ -84,30 +84,30 @@ module _ (c : tie.After-clock-refusal) where
       at-higher.higher.ensures ∙ ap (λ (d : List ℕ). higher real start.args.writers.now start.args.call.high (stamp_at_def d))
       at-higher.before.before.rest.ensures
 
-  ended : (v : Bool) → c.before.is-full.result ≡ v
+  ended : (v : Bool) → c.before.is_full-ends.result ≡ v
       → ends (shelf start.args.party.t) start.args.call start.args.passed.head.server ≡ v
   ended v e =
       ends_by start.args.party.t start.args.call start.args.passed.head.server _
-      (ap (λ (z : Call). z.tally) c.before.before.note-reply.ensures
+      (ap (λ (z : Call). z.tally) c.before.before.note_reply-noted.ensures
       ∙ ap (λ (z : Call). noted (shelf start.args.party.t) z.tally start.args.passed.head.server)
-      c.before.before.before.with-high.ensures) _ v
-      c.before.is-full.ensures e
+      c.before.before.before.with_high.ensures) _ v
+      c.before.is_full-ends.ensures e
 
-  refusal_is : c.clock-refusal.result
+  refusal_is : c.clock_refusal-n.result
       ≡ first_of (refuse 14 (ends (shelf start.args.party.t) start.args.call start.args.passed.head.server && leb top_number high)
       ∷ refuse 15 (ltb start.args.room content_room) ∷ [])
-  refusal_is = rw (ended _ refl) c.clock-refusal.ensures
+  refusal_is = rw (ended _ refl) c.clock_refusal-n.ensures
 
-returns : tie.Need-returns
+returns : tie.Need-returns-then-n-ne0
 returns c =
     let q = c.before.before in
     let a = (start q).args in
     let p = (start q).requires in
     λ output l. rw c.refused.ensures
     (clock-refused a.party.t a.party.client a.call a.reply.now a.passed.head p.0 a.writers.now a.keys.now
-    a.kept.now output p.1.0 q.clock-refusal.result a.room (high q) (refusal_is q) c.before.if1.true (high_is q) l)
+    a.kept.now output p.1.0 q.clock_refusal-n.result a.room (high q) (refusal_is q) c.before.if-n-ne0.true (high_is q) l)
 
-end-clock-requires : tie.Need-end-clock-requires
+end-clock-requires : tie.Need-end_clock-requires
 end-clock-requires c κs =
     let q = c.before.before.before in
     let a = (start q).args in
@@ -116,32 +116,32 @@ end-clock-requires c κs =
     let b =
     clock-below a.party.t a.party.client a.call a.reply.now a.passed.head p.0 a.writers.now a.keys.now a.kept.now []
     p.1.0
-    q.clock-refusal.result a.room (high q) (refusal_is q) c.before.before.if1.false (high_is q) (ended q _ c.before.if2.true) in
+    q.clock_refusal-n.result a.room (high q) (refusal_is q) c.before.before.if-n-ne0.false (high_is q) (ended q _ c.before.if-ends.true) in
     (f.0, (f.1, ((ready-client a.party.t a.party.client a.call a.reply.now a.passed.head p.0).1, (p.1.1.0, b))))
 
-returns-2 : tie.Need-returns-2
+returns-2 : tie.Need-returns-then-ends
 returns-2 c =
     let d = c.before.before in
     let q = d.before.before.before.before in
     let a = (start q).args in
     let p = (start q).requires in
-    λ output l. rw (d.end-clock.ensures.0, d.end-clock.ensures.1)
+    λ output l. rw (d.end_clock.ensures.0, d.end_clock.ensures.1)
     (clock-ended a.party.t a.party.client a.call a.reply.now a.passed.head p.0 a.writers.now a.keys.now
     a.kept.now output p.1.0
-    q.clock-refusal.result a.room (high q) (refusal_is q) d.before.before.before.if1.false (high_is q) l
-    (ended q _ d.before.before.if2.true))
+    q.clock_refusal-n.result a.room (high q) (refusal_is q) d.before.before.before.if-n-ne0.false (high_is q) l
+    (ended q _ d.before.before.if-ends.true))
 
-returns-3 : tie.Need-returns-3
+returns-3 : tie.Need-returns
 returns-3 c =
     let q = c.before.before.before in
     let a = (start q).args in
     let p = (start q).requires in
-    λ output l. rw (c.more.ensures, q.before.before.note-reply.ensures, q.before.before.before.with-high.ensures)
+    λ output l. rw (c.more.ensures, q.before.before.note_reply-noted.ensures, q.before.before.before.with_high.ensures)
     (clock-noted a.party.t a.party.client a.call a.reply.now a.passed.head p.0 a.writers.now a.keys.now
     a.kept.now output p.1.0
-    q.clock-refusal.result a.room (high q) (refusal_is q) c.before.before.if1.false (high_is q) l (ended q _ c.before.if2.false))
+    q.clock_refusal-n.result a.room (high q) (refusal_is q) c.before.before.if-n-ne0.false (high_is q) l (ended q _ c.before.if-ends.false))
 
-pub take-clock-spec : {M : Type 1} → statement M
-take-clock-spec = tie.close (tie.spec (λ c κs. search rules) higher-requires (λ c. search rules) (λ c κs. search rules) note-reply-requires
+pub take_clock_spec : {M : Type 1} → statement M
+take_clock_spec = tie.close (tie.spec (λ c κs. search rules) higher-requires (λ c. search rules) (λ c κs. search rules) note-reply-requires
     is-full-requires (λ c κs. search rules) (λ c κs. search rules) returns end-clock-requires (λ c. search rules) returns-2 (λ c κs. search rules)
     returns-3)

@@ -16,19 +16,19 @@ use Rattle.client.proofs.filter.repair_with.Statement.{statement}
 use Rattle.client.proofs.filter.repair_with.Tie as tie
 
 -- Places far back, each named once: the place, and from where it is seen.
-abbrev start-from-put-repair : tie.After-put-repair → tie.Start
+abbrev start-from-put-repair : tie.After-put_repair → tie.Start
 start-from-put-repair c = c.before.before.before.before.before
 
-write-at-requires-2 : tie.Need-write-at-requires-2
+write-at-requires-2 : tie.Need-write_at-requires-2
 unfolding shelf
 write-at-requires-2 c κs =
     let at-write-at = c.before.before.before.before.before.before.before in
     let at-put-repair = at-write-at.before.before.before in
     let at-start = start-from-put-repair at-put-repair in
-    let n = c.before.before.before.candidate-size.result in
+    let n = c.before.before.before.candidate_size-size.result in
     let z : n ≡ candidate_size_def (shelf at-start.args.led.t) =
-    c.before.before.before.candidate-size.ensures in
-    let q : length c.part.result.now ≤ n = rw c.part.ensures (part-most at-put-repair.put-repair.new.0 0 n) in
+    c.before.before.before.candidate_size-size.ensures in
+    let q : length c.part.result.now ≤ n = rw c.part.ensures (part-most at-put-repair.put_repair.new.0 0 n) in
     omega (
       arith,
       at-start.pre.0,
@@ -44,23 +44,23 @@ returns c =
     let a = at-start.args in
     let p = at-start.pre in
     let R : List ℕ = repair_bytes a.led.t a.kept.now a.led.slot a.led.server (length a.content.now) in
-    let e : at-put-repair.put-repair.new.0 ≡ put (replicate candidate_slot 0) 0 R =
-    at-put-repair.put-repair.ensures in
+    let e : at-put-repair.put_repair.new.0 ≡ put (replicate candidate_slot 0) 0 R =
+    at-put-repair.put_repair.ensures in
     let l : length {A = ℕ} (replicate candidate_slot 0) ≡ candidate_slot = length-replicate {A = ℕ} candidate_slot 0 in
-    let k : bytes_at at-put-repair.put-repair.new.0 0 (candidate_size_def (shelf a.led.t)) ≡ R =
+    let k : bytes_at at-put-repair.put_repair.new.0 0 (candidate_size_def (shelf a.led.t)) ≡ R =
     ap (λ (x : List ℕ). bytes_at x 0 (candidate_size_def (shelf a.led.t))) e
     ∙ repair-cut a.led.t a.kept.now a.led.slot a.led.server (length a.content.now) p.0 p.1.1.1.1.0 p.1.0
     p.1.1.0 p.1.1.1.0
     p.1.1.1.1.1 (replicate candidate_slot 0) (omega (arith, l)) in (
       c.repairing.ensures,
-      c.before.before.before.write-at2.ensures ∙ rw (
+      c.before.before.before.write_at-2.ensures ∙ rw (
         at_part.part.ensures,
-        at_part.before.before.before.candidate-size.ensures,
-        at-write-at.write-at.ensures,
+        at_part.before.before.before.candidate_size-size.ensures,
+        at-write-at.write_at.ensures,
         k,
       ),
     )
 
-pub repair-with-spec : {M : Type 1} → statement M
-repair-with-spec = tie.close (tie.spec (λ c. search rules) (λ c κs. search rules) (λ c κs. search rules) (λ c. search rules) (λ c κs. search rules)
+pub repair_with_spec : {M : Type 1} → statement M
+repair_with_spec = tie.close (tie.spec (λ c. search rules) (λ c κs. search rules) (λ c κs. search rules) (λ c. search rules) (λ c κs. search rules)
     (λ c. search rules) (λ c κs. search rules) write-at-requires-2 (λ c. search rules) (λ c κs. search rules) (λ c. search rules) returns)

@@ -6,5 +6,5 @@ use Rattle.client.proofs.filter.repairing.Tie as tie
 returns : tie.Need-returns
 returns c = rw (c.more.ensures, c.before.enter.ensures)
 
-pub repairing-spec : {M : Type 1} → statement M
-repairing-spec = tie.close (tie.spec (λ c κs. search rules) (λ c κs. search rules) returns)
+pub repairing_spec : {M : Type 1} → statement M
+repairing_spec = tie.close (tie.spec (λ c κs. search rules) (λ c κs. search rules) returns)

@@ -8,8 +8,8 @@ use Rattle.client.proofs.filter.tags_at.Tie as tie
 returns : tie.Need-returns
 returns c =
     let at-start = c.before in
-    let e = c.tags-at.ensures in
+    let e = c.tags_at.ensures in
     (e, omega (arith, e, tags-room at-start.args.t at-start.args.n at-start.requires.0 at-start.requires.1))
 
-pub tags-at-spec : {M : Type 1} → statement M
-tags-at-spec = tie.close (tie.spec (λ c. search rules) (λ c. search rules) (λ c κs. search rules) returns)
+pub tags_at_spec : {M : Type 1} → statement M
+tags_at_spec = tie.close (tie.spec (λ c. search rules) (λ c. search rules) (λ c κs. search rules) returns)

@@ -18,12 +18,12 @@ use Rattle.client.proofs.FilterReplies.{body-fits, filter_more, filter-ends}
 use Rattle.client.proofs.filter.take_filter.Statement.{statement}
 use Rattle.client.proofs.filter.take_filter.Tie as tie
 
-put-reply-requires : tie.Need-put-reply-requires
+put-reply-requires : tie.Need-put_reply-requires
 put-reply-requires c κs =
     let at-shared-slice-known = c.before.before.before.before in
     let a = at-shared-slice-known.before.before.args in
     let p = at-shared-slice-known.before.before.requires in
-    let Y : Bytes a.reply.now = λ k. (at-shared-slice-known.shared-slice-known.given k).fits in
+    let Y : Bytes a.reply.now = λ k. (at-shared-slice-known.shared_slice_known-1.given k).fits in
     let v = ready-server a.party.t a.party.client a.call a.reply.now a.head p.0 in (
       v.0,
       (
@@ -37,10 +37,10 @@ put-reply-requires c κs =
     )
 
 -- Places far back, each named once: the place, and from where it is seen.
-abbrev shared-slice-known-from-put-reply : tie.After-put-reply → tie.After-shared-slice-known
+abbrev shared-slice-known-from-put-reply : tie.After-put_reply → tie.After-shared_slice_known-1
 shared-slice-known-from-put-reply c = c.before.before.before.before.before
 
-note-reply-requires : tie.Need-note-reply-requires
+note-reply-requires : tie.Need-note_reply-noted-requires
 note-reply-requires c κs =
     let q = (shared-slice-known-from-put-reply c.before.before).before.before in
     let a = q.args in
@@ -50,25 +50,25 @@ note-reply-requires c κs =
           a.reply.now a.head y,
     )
 
-is-full-requires : tie.Need-is-full-requires
+is-full-requires : tie.Need-is_full-requires
 is-full-requires c κs =
     let q = (shared-slice-known-from-put-reply c.before.before.before).before.before in
     let a = q.args in
     (ready-faults a.party.t a.party.client a.call a.reply.now a.head q.pre.0).1
 
-abbrev put-reply-from-is-full : tie.After-is-full → tie.After-put-reply
+abbrev put-reply-from-is-full : tie.After-is_full → tie.After-put_reply
 put-reply-from-is-full c = c.before.before.before.before
 
-module _ (c : tie.After-is-full) where
+module _ (c : tie.After-is_full) where
   abbrev start : tie.Start
   start = (shared-slice-known-from-put-reply (put-reply-from-is-full c)).before.before
 
   -- the test of the code tells whether the reply ends the round
-  ended : (v : Bool) → c.is-full.result ≡ v → ends (shelf start.args.party.t) start.args.call start.args.head.server ≡ v
+  ended : (v : Bool) → c.is_full.result ≡ v → ends (shelf start.args.party.t) start.args.call start.args.head.server ≡ v
   ended v e =
       ends_by start.args.party.t start.args.call start.args.head.server _ (ap (λ (z : Call). z.tally)
-      c.before.note-reply.ensures) _ v
-      c.is-full.ensures e
+      c.before.note_reply-noted.ensures) _ v
+      c.is_full.ensures e
 
 judge-requires : tie.Need-judge-requires
 judge-requires c κs =
@@ -80,7 +80,7 @@ judge-requires c κs =
     let r = ready-faults a.party.t a.party.client a.call a.reply.now a.head p.0 in
     (r.0, (r.1, (omega (arith, p.1.1.0), p.1.1.1)))
 
-returns : tie.Need-returns
+returns : tie.Need-returns-then-is_full
 returns c =
     let at-judge = c.before.before.before.before in
     let at-is-full = at-judge.before.before.before.before in
@@ -89,21 +89,21 @@ returns c =
     let a = at-shared-slice-known.before.before.args in
     let p = at-shared-slice-known.before.before.pre in
     let Y : Bytes a.reply.now = λ k. (at-shared-slice-known.shared-slice-known.given k).fits in
-    let e = ended at-is-full _ at-judge.before.before.before.if1.true in
+    let e = ended at-is-full _ at-judge.before.before.before.if-is_full.true in
     let at : ℕ = replies_place + reply_slot * (a.head.server - 1) in
-    let N : Bytes at-put-reply.put-reply.new.0 = λ k. (at-is-full.before.before.slice-known3.given k).fits in
-    let K : Bytes (put a.kept.now at (drop head_size a.reply.now)) = subst Bytes (at-put-reply.put-reply.ensures ∙ ap
+    let N : Bytes at-put-reply.put_reply.new.0 = λ k. (at-is-full.before.before.slice_known-3-1.given k).fits in
+    let K : Bytes (put a.kept.now at (drop head_size a.reply.now)) = subst Bytes (at-put-reply.put_reply.ensures ∙ ap
     (put a.kept.now at) at-put-reply.before.rest.ensures) N in
     λ writers keys. at-judge.judge.ensures ∙ rw (
-      at-is-full.before.note-reply.ensures,
-      at-put-reply.put-reply.ensures,
+      at-is-full.before.note_reply-noted.ensures,
+      at-put-reply.put_reply.ensures,
       at-put-reply.before.rest.ensures,
     )
     (filter-ends a.party.t a.party.client a.call a.reply.now a.head p.0 p.1.0 Y writers keys a.kept.now a.out.now
     p.1.1.1
     p.1.1.0 K e)
 
-returns-2 : tie.Need-returns-2
+returns-2 : tie.Need-returns
 returns-2 c =
     let at-is-full = c.before.before in
     let at-put-reply = at-is-full.before.before.before.before in
@@ -111,17 +111,17 @@ returns-2 c =
     let a = at-shared-slice-known.before.before.args in
     let p = at-shared-slice-known.before.before.pre in
     let Y : Bytes a.reply.now = λ k. (at-shared-slice-known.shared-slice-known.given k).fits in
-    let e = ended c.before.before _ c.before.if1.false in
+    let e = ended c.before.before _ c.before.if-is_full.false in
     λ writers keys.
     rw (
       c.more.ensures,
-      c.before.before.before.note-reply.ensures,
-      at-put-reply.put-reply.ensures,
+      c.before.before.before.note_reply-noted.ensures,
+      at-put-reply.put_reply.ensures,
       at-put-reply.before.rest.ensures,
     )
     (filter_more a.party.t a.party.client a.call a.reply.now a.head p.0 p.1.0 Y writers keys a.kept.now a.out.now
     p.1.1.1 e)
 
-pub take-filter-spec : {M : Type 1} → statement M
-take-filter-spec = tie.close (tie.spec (λ c. search rules) (λ c κs. search rules) put-reply-requires note-reply-requires is-full-requires
+pub take_filter_spec : {M : Type 1} → statement M
+take_filter_spec = tie.close (tie.spec (λ c. search rules) (λ c κs. search rules) put-reply-requires note-reply-requires is-full-requires
     judge-requires (λ c. search rules) (λ c. search rules) returns (λ c κs. search rules) (λ c. search rules) returns-2)

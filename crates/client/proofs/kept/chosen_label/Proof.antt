@@ -8,5 +8,5 @@ returns : tie.Need-returns
 unfolding chosen_of candidate_at
 returns c = rw (c.label.ensures, c.before.part.ensures)
 
-pub chosen-label-spec : {M : Type 1} → statement M
-chosen-label-spec = tie.close (tie.spec (λ c κs. search rules) (λ c κs. search rules) returns)
+pub chosen_label_spec : {M : Type 1} → statement M
+chosen_label_spec = tie.close (tie.spec (λ c κs. search rules) (λ c κs. search rules) returns)

@@ -6,11 +6,11 @@ use borrow.Author.Rules.{rules}
 use Rattle.client.proofs.kept.content_length.Statement.{statement}
 use Rattle.client.proofs.kept.content_length.Tie as tie
 
-returns : tie.Need-returns
+returns : tie.Need-returns-then-n-le-TOP_LENGTH
 returns c = (sym (rw (le-leb c.before.before.args.call.length 1024 (omega arith))), omega arith)
 
-returns-2 : tie.Need-returns-2
+returns-2 : tie.Need-returns
 returns-2 c = (sym (rw (lt-leb c.before.before.args.call.length 1024 (omega arith))), omega arith)
 
-pub content-length-spec : {M : Type 1} → statement M
-content-length-spec = tie.close (tie.spec (λ c. search rules) returns returns-2)
+pub content_length_spec : {M : Type 1} → statement M
+content_length_spec = tie.close (tie.spec (λ c. search rules) returns returns-2)

@@ -7,7 +7,7 @@ use Rattle.client.proofs.packets.head_of.Tie as tie
 returns : tie.Need-returns
 returns c = search rules
 
-pub head-of-spec : {M : Type 1} → statement M
-head-of-spec = tie.close (tie.spec (λ c. omega (arith, c.before.requires.0, c.before.requires.1.0, c.before.requires.1.1))
+pub head_of_spec : {M : Type 1} → statement M
+head_of_spec = tie.close (tie.spec (λ c. omega (arith, c.before.requires.0, c.before.requires.1.0, c.before.requires.1.1))
     (λ c. omega (arith, c.before.requires.0, c.before.requires.1.0, c.before.requires.1.1))
     (λ c. omega (arith, c.before.before.requires.0, c.before.before.requires.1.0, c.before.before.requires.1.1)) returns)

@@ -18,28 +18,28 @@ use Rattle.client.proofs.packets.make_filter.Statement.{statement}
 use Rattle.client.proofs.packets.make_filter.Tie as tie
 
 -- Places far back, each named once: the place, and from where it is seen.
-abbrev start-from-put-head : tie.After-put-head → tie.Start
+abbrev start-from-put-head : tie.After-put_head-a → tie.Start
 start-from-put-head c = c.before.before.before.before
 
-abbrev put-head-from-put-list : tie.After-put-list → tie.After-put-head
+abbrev put-head-from-put-list : tie.After-put_list-n → tie.After-put_head-a
 put-head-from-put-list c = c.before.before.before.before
 
-abbrev put-list-from-put-byte-arg : tie.After-put-byte-arg → tie.After-put-list
+abbrev put-list-from-put-byte-arg : tie.After-put_byte-arg-1 → tie.After-put_list-n
 put-list-from-put-byte-arg c = c.before.before.before.before
 
-headed : (c : tie.After-put-head) → (c.put-head.result ≡ head_size) × (length c.put-head.new.0 ≡ length (start-from-put-head c).args.out.now)
-headed c = let at-start = start-from-put-head c in after-head at-start.args.head at-start.args.out.now at-start.pre.1.1.1 c.put-head.ensures
+headed : (c : tie.After-put_head-a) → (c.put_head-a.result ≡ head_size) × (length c.put_head-a.new.0 ≡ length (start-from-put-head c).args.out.now)
+headed c = let at-start = start-from-put-head c in after-head at-start.args.head at-start.args.out.now at-start.pre.1.1.1 c.put_head-a.ensures
 
 -- the candidates that are listed
-abbrev listed : tie.After-put-list → List Candidate
+abbrev listed : tie.After-put_list-n → List Candidate
 listed c =
     let a = (start-from-put-head (put-head-from-put-list c)).args in
     gather (candidates_in (shelf a.t) a.kept.now) (shelf a.t).servers
 
-add-b : tie.Need-overflow-add-b
+add-b : tie.Need-overflow_add-b
 add-b c = omega (arith, (headed c.before.before).0)
 
-put-list-requires : tie.Need-put-list-requires
+put-list-requires : tie.Need-put_list-n-requires
 put-list-requires c κs =
     let at-put-head = c.before.before.before in
     let p = (start-from-put-head at-put-head).requires in
@@ -47,9 +47,9 @@ put-list-requires c κs =
     (p.0, (p.1.0, (p.1.1.0, omega (arith, h.0, h.1, p.1.1.1))))
 
 -- the count is what the bytes written tell
-count_is : (c : tie.After-put-byte-arg)
+count_is : (c : tie.After-put_byte-arg-1)
     → let at-put-list = put-list-from-put-byte-arg c in
-    (at-put-list.put-list.result - ((put-head-from-put-list at-put-list).put-head.result + 1)) / c.before.candidate-size.result ≡
+    (at-put-list.put-list.result - ((put-head-from-put-list at-put-list).put-head.result + 1)) / c.before.candidate_size-size.result ≡
     length (listed at-put-list)
 count_is c =
     let at-put-list = put-list-from-put-byte-arg c in
@@ -60,19 +60,19 @@ count_is c =
     let l = list_counted a.t a.kept.now p.0 p.1.0 p.1.1.0 (shelf a.t).servers (omega arith) in
     let d : at-put-list.put-list.result - ((put-head-from-put-list at-put-list).put-head.result + 1) ≡ w * length (listed at-put-list) =
     omega (arith, at-put-list.put-list.ensures.place, l) in
-    div-eq_of_eq-mul_right (omega (arith, c.before.candidate-size.ensures))
-    (d ∙ ap (λ (z : ℕ). z * length (listed at-put-list)) (sym c.before.candidate-size.ensures))
+    div-eq_of_eq-mul_right (omega (arith, c.before.candidate_size-size.ensures))
+    (d ∙ ap (λ (z : ℕ). z * length (listed at-put-list)) (sym c.before.candidate_size-size.ensures))
 
-cast-size : tie.Need-overflow-cast-candidate-size
+cast-size : tie.Need-overflow_cast-t
 cast-size c = omega (arith, (start-from-put-head (put-head-from-put-list c.before.before)).requires.1.0)
 
-sub-count : tie.Need-overflow-sub-put-byte
+sub-count : tie.Need-overflow_sub-n
 sub-count c = omega (arith, (put-list-from-put-byte-arg c).put-list.ensures.place)
 
-div-count : tie.Need-nonzero-div-put-byte
-div-count c = omega (arith, c.before.candidate-size.ensures)
+div-count : tie.Need-nonzero_div-n
+div-count c = omega (arith, c.before.candidate_size-size.ensures)
 
-cast-count : tie.Need-overflow-cast-put-byte
+cast-count : tie.Need-overflow_cast-n
 cast-count c =
     let at-start = start-from-put-head (put-head-from-put-list (put-list-from-put-byte-arg c)) in
     let a = at-start.args in
@@ -93,6 +93,6 @@ returns c =
     (print_many (candidate_f (shelf a.t)) (listed at-put-list)) (omega (arith, l, p.1.0)) at-put-list.put-list.ensures
     (rw (count_is at_arg) at c.before.before.put_byte.ensures)
 
-pub make-filter-spec : {M : Type 1} → statement M
-make-filter-spec = tie.close (tie.spec (λ c κs. search rules) add-b put-list-requires cast-size (λ c κs. search rules) sub-count div-count cast-count
+pub make_filter_spec : {M : Type 1} → statement M
+make_filter_spec = tie.close (tie.spec (λ c κs. search rules) add-b put-list-requires cast-size (λ c κs. search rules) sub-count div-count cast-count
     (λ c κs. search rules) (λ c. search rules) returns)

@@ -13,12 +13,12 @@ use Rattle.client.proofs.MadeBytes.{round-bytes, store_bytes, chosen-bytes, empt
 use Rattle.client.proofs.packets.make_plain.Statement.{statement}
 use Rattle.client.proofs.packets.make_plain.Tie as tie
 
-request-kind-requires : tie.Need-request-kind-requires
+request-kind-requires : tie.Need-request_kind-requires
 request-kind-requires c κs =
     let at-start = c.before.before.before in
     hand-round at-start.args.call at-start.requires.1.1.1.1.1.1.0
 
-head-of-requires : tie.Need-head-of-requires
+head-of-requires : tie.Need-head_of-head-requires
 unfolding shelf
 head-of-requires c κs =
     let at-start = c.before.before.before.before in
@@ -27,10 +27,10 @@ head-of-requires c κs =
     let s : a.server ≤ most_servers = omega (arith, p.0, p.1.1.1.0) in (p.0, (p.1.0, s))
 
 -- Places far back, each named once: the place, and from where it is seen.
-abbrev start-from-head-of : tie.After-head-of → tie.Start
+abbrev start-from-head-of : tie.After-head_of-head → tie.Start
 start-from-head-of c = c.before.before.before.before.before
 
-make-store-requires : tie.Need-make-store-requires
+make-store-requires : tie.Need-make_store-requires
 unfolding shelf
 make-store-requires c κs =
     let at-start = start-from-head-of c.before.before in
@@ -38,17 +38,17 @@ make-store-requires c κs =
     let p = at-start.pre in
     let s : a.server ≤ most_servers = omega (arith, p.0, p.1.1.1.0) in (p.0, (p.1.1.0, (s, (p.1.1.1.1.0, p.1.1.1.1.1.0))))
 
-make-chosen-requires : tie.Need-make-chosen-requires
+make-chosen-requires : tie.Need-make_chosen-requires
 make-chosen-requires c κs =
     let p = (start-from-head-of c.before.before).requires in
     (p.0, (p.1.1.1.1.0, p.1.1.1.1.1.0))
 
-make-empty-requires : tie.Need-make-empty-requires
+make-empty-requires : tie.Need-make_empty-requires
 make-empty-requires c κs =
     let p = (start-from-head-of c.before.before).requires in
     p.1.1.1.1.1.0
 
-returns : tie.Need-returns
+returns : tie.Need-returns-in-2
 returns c =
     let at-match = c.before.before.before.before in
     let at-start = start-from-head-of at-match.before in
@@ -56,37 +56,37 @@ returns c =
     let p = at-start.pre in
     let q = round-bytes a.party.t a.party.client a.server a.call a.kept.now a.call.tally.round refl ∙ store_bytes
     a.party.t a.party.client
-    a.server a.call a.kept.now a.call.tally.round at-match.match.keys1 p.1.1.0 p.1.1.1.0 in
-    (rw (at-match.before.head_of.ensures, at-match.before.before.request-kind.ensures) at c.before.before.make-store.ensures)
+    a.server a.call a.kept.now a.call.tally.round at-match.in-2.keys1 p.1.1.0 p.1.1.1.0 in
+    (rw (at-match.before.head_of-head.ensures, at-match.before.before.request_kind.ensures) at c.before.before.make_store.ensures)
     ∙ ap (λ (x : List ℕ). whole_packet x a.out.now) (sym q)
 
-returns-2 : tie.Need-returns-2
+returns-2 : tie.Need-returns-in-3
 returns-2 c =
     let at-match = c.before.before.before.before in
     let a = (start-from-head-of at-match.before).args in
     let q = round-bytes a.party.t a.party.client a.server a.call a.kept.now a.call.tally.round refl ∙ chosen-bytes
     a.party.t a.party.client
-    a.server a.call a.kept.now a.call.tally.round at-match.match.keys2 in
-    (rw (at-match.before.head_of.ensures, at-match.before.before.request-kind.ensures) at c.before.before.make-chosen.ensures)
+    a.server a.call a.kept.now a.call.tally.round at-match.in-3.keys2 in
+    (rw (at-match.before.head_of-head.ensures, at-match.before.before.request_kind.ensures) at c.before.before.make_chosen.ensures)
     ∙ ap (λ (x : List ℕ). whole_packet x a.out.now) (sym q)
 
-returns-3 : tie.Need-returns-3
+returns-3 : tie.Need-returns-in_default
 returns-3 c =
     let at-match = c.before.before.before.before in
     let at-start = start-from-head-of at-match.before in
     let a = at-start.args in
     let p = at-start.pre in
     let r = hand-round a.call p.1.1.1.1.1.1.0 in
-    let none = at-match.match.rest in
+    let none = at-match.in_default.rest in
     let q = round-bytes a.party.t a.party.client a.server a.call a.kept.now a.call.tally.round refl ∙ empty-bytes
     a.party.t a.party.client
     a.server a.call a.kept.now a.call.tally.round r.0 r.1 none.0.1 (λ e. none.1 (inl e)) p.1.1.1.1.1.1.1
     (λ e. none.1 (inr e)) in
-    (rw (at-match.before.head_of.ensures, at-match.before.before.request-kind.ensures) at c.before.before.make-empty.ensures)
+    (rw (at-match.before.head_of-head.ensures, at-match.before.before.request_kind.ensures) at c.before.before.make_empty.ensures)
     ∙ ap (λ (x : List ℕ). whole_packet x a.out.now) (sym q)
 
-pub make-plain-spec : {M : Type 1} → statement M
-make-plain-spec = tie.close (tie.spec
+pub make_plain_spec : {M : Type 1} → statement M
+make_plain_spec = tie.close (tie.spec
     request-kind-requires head-of-requires
     make-store-requires make-chosen-requires make-empty-requires (λ c. search rules) returns (λ c. search rules) returns-2 (λ c. search rules)
     returns-3)

@@ -11,7 +11,7 @@ use borrow.Author.Rules.{rules}
 use Rattle.client.proofs.packets.make_round.Statement.{statement}
 use Rattle.client.proofs.packets.make_round.Tie as tie
 
-head-of-requires : tie.Need-head-of-requires
+head-of-requires : tie.Need-head_of-requires
 unfolding shelf
 head-of-requires c κs =
     let at-start = c.before.before.before.before in
@@ -19,17 +19,17 @@ head-of-requires c κs =
     let p = at-start.requires in
     let s : a.server ≤ most_servers = omega (arith, p.1.0, p.1.1.1.1.0) in (p.1.0, (p.1.1.0, s))
 
-returns : tie.Need-returns
+returns : tie.Need-returns-then-round-eq-FILTER
 returns c =
     let at-head-of = c.before.before.before.before in
     let at-start = at-head-of.before.before.before.before.before in
     let a = at-start.args in
     let p = at-start.requires in
-    let q = round-bytes a.party.t a.party.client a.server a.call a.kept.now 5 at-head-of.before.if1.true ∙
+    let q = round-bytes a.party.t a.party.client a.server a.call a.kept.now 5 at-head-of.before.if-round-eq-FILTER.true ∙
     filter-bytes a.party.t a.party.client a.server a.call a.kept.now in
-    (rw at-head-of.head_of.ensures at c.before.before.make-filter.ensures) ∙ ap (λ (x : List ℕ). whole_packet x a.out.now) (sym q)
+    (rw at-head-of.head_of.ensures at c.before.before.make_filter.ensures) ∙ ap (λ (x : List ℕ). whole_packet x a.out.now) (sym q)
 
-make-plain-requires : tie.Need-make-plain-requires
+make-plain-requires : tie.Need-make_plain-requires
 make-plain-requires c κs =
     let p = c.before.before.before.before.before.requires in (
       p.1.0,
@@ -41,16 +41,16 @@ make-plain-requires c κs =
             p.1.1.1.1.0,
             (
               p.1.1.1.1.1.0,
-              (p.1.1.1.1.1.1.0, (p.1.1.1.1.1.1.1, c.before.if1.false)),
+              (p.1.1.1.1.1.1.0, (p.1.1.1.1.1.1.1, c.before.if-round-eq-FILTER.false)),
             ),
           ),
         ),
       ),
     )
 
-returns-2 : tie.Need-returns-2
+returns-2 : tie.Need-returns
 returns-2 c = search rules
 
-pub make-round-spec : {M : Type 1} → statement M
-make-round-spec = tie.close (tie.spec head-of-requires (λ c κs. search rules) (λ c. search rules) returns make-plain-requires (λ c. search rules)
+pub make_round_spec : {M : Type 1} → statement M
+make_round_spec = tie.close (tie.spec head-of-requires (λ c κs. search rules) (λ c. search rules) returns make-plain-requires (λ c. search rules)
     returns-2)

@@ -19,20 +19,20 @@ use Rattle.client.proofs.Printed.{packet-fits, share_back, part_short}
 use Rattle.client.proofs.packets.make_store.Statement.{statement}
 use Rattle.client.proofs.packets.make_store.Tie as tie
 
-sub_part : tie.Need-overflow-sub-part
+sub_part : tie.Need-overflow_sub-server
 sub_part c = omega (arith, c.before.before.before.requires.1.0)
 
-mul-part : tie.Need-overflow-mul-part
+mul-part : tie.Need-overflow_mul-server
 mul-part c = omega (arith, c.before.before.before.requires.1.0, c.before.before.before.requires.1.1.0)
 
-add-part : tie.Need-overflow-add-part
+add-part : tie.Need-overflow_add-server
 add-part c = omega (arith, c.before.before.before.requires.1.0, c.before.before.before.requires.1.1.0)
 
 -- Places far back, each named once: the place, and from where it is seen.
-abbrev start-from-part2 : tie.After-part2 → tie.Start
+abbrev start-from-part2 : tie.After-part-slot → tie.Start
 start-from-part2 c = c.before.before.before.before
 
-share-size-requires : tie.Need-share-size-requires
+share-size-requires : tie.Need-share_size-size-requires
 share-size-requires c κs = (start-from-part2 c.before).requires.0
 
 returns : tie.Need-returns
@@ -43,7 +43,7 @@ returns c =
     let at-start = start-from-part2 at-part2 in
     let a = at-start.args in
     let p = at-start.pre in
-    let K : Bytes a.kept.now = λ k. (at-part2.before.before.before.shared-slice-known.given k).fits in
+    let K : Bytes a.kept.now = λ k. (at-part2.before.before.before.shared_slice_known-1.given k).fits in
     let i : ℕ = a.server - 1 in
     let D : List ℕ = bytes_at a.kept.now chosen_place candidate_slot in
     let E : List ℕ = bytes_at a.kept.now (replies_place + reply_slot * i) reply_slot in
@@ -54,19 +54,19 @@ returns c =
     let h = share_back (shelf a.t) E (bytes-part a.kept.now (replies_place + reply_slot * i) reply_slot K) (omega (arith, le)) in
     let m = part-most D 0 stamp_size in
     let n = part_short E (share_size_def (shelf a.t) (length_at E)) in
-    c.before.before.make-packet.ensures ∙ rw (
-      at-part4.before.part3.ensures,
-      at-part4.part4.ensures,
-      at-part4.before.before.share-size.ensures,
+    c.before.before.make_packet.ensures ∙ rw (
+      at-part4.before.part-stamp.ensures,
+      at-part4.part.ensures,
+      at-part4.before.before.share_size-size.ensures,
       at-part4.before.before.before.number2.ensures,
-      at-part2.part2.ensures,
-      at-part2.before.part.ensures,
+      at-part2.part-slot.ensures,
+      at-part2.before.part-chosen.ensures,
     )
     (packet-fits a.head (bytes_at D 0 stamp_size) (bytes_at E 0 (share_size_def (shelf a.t) (length_at E))) a.out.now p.1.1.1.1
     (omega (arith, m, n, le))
     ∙ (ap (λ (x : List ℕ). whole_packet (head_f.print a.head ++ (x ++ bytes_at E 0 (share_size_def (shelf a.t) (length_at E)))) a.out.now) (sym s)
     ∙ ap (λ (x : List ℕ). whole_packet (head_f.print a.head ++ (stamp_f.print (stamp_at_def D) ++ x)) a.out.now) (sym h)))
 
-pub make-store-spec : {M : Type 1} → statement M
-make-store-spec = tie.close (tie.spec (λ c κs. search rules) sub_part mul-part add-part (λ c κs. search rules) (λ c κs. search rules)
+pub make_store_spec : {M : Type 1} → statement M
+make_store_spec = tie.close (tie.spec (λ c κs. search rules) sub_part mul-part add-part (λ c κs. search rules) (λ c κs. search rules)
     share-size-requires (λ c κs. search rules) (λ c κs. search rules) (λ c κs. search rules) (λ c. search rules) returns)

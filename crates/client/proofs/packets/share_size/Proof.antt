@@ -4,11 +4,11 @@ use native.Mathlib.Omega.{arith}
 use Rattle.client.proofs.packets.share_size.Statement.{statement}
 use Rattle.client.proofs.packets.share_size.Tie as tie
 
-cast-u : tie.Need-overflow-cast-u
+cast-u : tie.Need-overflow_cast-u
 cast-u c = omega (arith, c.requires)
 
 returns : tie.Need-returns
-returns c = c.share-size.ensures
+returns c = c.share_size.ensures
 
-pub share-size-spec : {M : Type 1} → statement M
-share-size-spec = tie.close (tie.spec cast-u (λ c κs. search rules) returns)
+pub share_size_spec : {M : Type 1} → statement M
+share_size_spec = tie.close (tie.spec cast-u (λ c κs. search rules) returns)

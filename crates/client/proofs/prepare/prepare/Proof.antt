@@ -11,12 +11,12 @@ returns c =
     let at-start = at-stamp-bytes.before.before.before.before.before in
     let a = at-start.args in
     let p = at-start.requires in
-    c.before.before.put-tagged.ensures ∙ rw (
-      at-stamp-bytes.stamp-bytes.ensures,
-      at-stamp-bytes.before.before.nonce.ensures,
+    c.before.before.put_tagged.ensures ∙ rw (
+      at-stamp-bytes.stamp_bytes-stamp.ensures,
+      at-stamp-bytes.before.before.nonce-nonce.ensures,
     ) (offered-made a.party.t a.party.client a.writers.now a.keys.now a.call
     a.kept.now a.number)
 
-pub prepare-spec : {M : Type 1} → statement M
-prepare-spec = tie.close (tie.spec (λ c κs. search rules) (λ c. search rules) (λ c κs. search rules) (λ c. search rules) (λ c κs. search rules)
+pub prepare_spec : {M : Type 1} → statement M
+prepare_spec = tie.close (tie.spec (λ c κs. search rules) (λ c. search rules) (λ c κs. search rules) (λ c. search rules) (λ c κs. search rules)
     (λ c. search rules) returns)

@@ -14,7 +14,7 @@ use Rattle.cluster.specs.Ranges.{most_servers}
 use Rattle.client.proofs.prepare.put_tagged.Statement.{statement}
 use Rattle.client.proofs.prepare.put_tagged.Tie as tie
 
-put-tags-requires : tie.Need-put-tags-requires
+put-tags-requires : tie.Need-put_tags-requires
 put-tags-requires c κs =
     let at-start = c.before.before.before.before.before in
     let a = at-start.args in
@@ -22,10 +22,10 @@ put-tags-requires c κs =
     (p.1.0, omega (arith, servers-few a.t p.1.0))
 
 -- Places far back, each named once: the place, and from where it is seen.
-abbrev start-from-put-tags : tie.After-put-tags → tie.Start
+abbrev start-from-put-tags : tie.After-put_tags → tie.Start
 start-from-put-tags c = c.before.before.before.before.before.before
 
-mul-part : tie.Need-overflow-mul-part
+mul-part : tie.Need-overflow_mul-servers
 mul-part c =
     let at-put-tags = c.before.before.before in
     let at-start = start-from-put-tags at-put-tags in
@@ -33,25 +33,25 @@ mul-part c =
     let p = at-start.pre in
     omega (arith, c.servers.ensures, servers-few a.t p.1.0)
 
-abbrev put-tags-from-part : tie.After-part → tie.After-put-tags
+abbrev put-tags-from-part : tie.After-part-made → tie.After-put_tags
 put-tags-from-part c = c.before.before.before.before
 
 -- the tags are read back from their array
-abbrev run : tie.After-part → List ℕ
+abbrev run : tie.After-part-made → List ℕ
 run c =
     let at-put-tags = c.before.before.before.before in
     let a = at-put-tags.before.before.before.before.before.before.args in
-    tag_run a.keys.now a.stamp.now at-put-tags.before.before.digest.result (shelf a.t).servers
+    tag_run a.keys.now a.stamp.now at-put-tags.before.before.digest-digest.result (shelf a.t).servers
 
-tags-back : (c : tie.After-part) →
-    (length (run c) ≡ tag_size * (shelf (start-from-put-tags (put-tags-from-part c)).args.t).servers) × (c.part.result.now ≡ run c)
+tags-back : (c : tie.After-part-made) →
+    (length (run c) ≡ tag_size * (shelf (start-from-put-tags (put-tags-from-part c)).args.t).servers) × (c.part-made.result.now ≡ run c)
 tags-back c =
     let at-put-tags = put-tags-from-part c in
     let at-start = start-from-put-tags at-put-tags in
     let a = at-start.args in
     let l = tag-run-length a.keys.now a.stamp.now at-put-tags.before.before.digest.result (shelf a.t).servers in (
       l,
-      run_back (replicate (tag_size * most_servers) 0) (run c) (tag_size * c.before.servers.result) c.part.ensures
+      run_back (replicate (tag_size * most_servers) 0) (run c) (tag_size * c.before.servers.result) c.part-made.ensures
           at-put-tags.put-tags.ensures (omega (arith, l, c.before.servers.ensures)) (omega (
             arith,
             l,
@@ -60,7 +60,7 @@ tags-back c =
           )),
     )
 
-put-write-requires : tie.Need-put-write-requires
+put-write-requires : tie.Need-put_write-requires
 put-write-requires c κs =
     let at_part = c.before in
     let at-put-tags = put-tags-from-part at_part in
@@ -72,11 +72,11 @@ put-write-requires c κs =
 returns : tie.Need-returns
 returns c =
     let at_part = c.before.before.before.before in
-    c.before.before.put-write.ensures ∙ rw (
+    c.before.before.put_write.ensures ∙ rw (
       (tags-back at_part).1,
-      at_part.before.before.before.before.before.before.digest.ensures,
+      at_part.before.before.before.before.before.before.digest-digest.ensures,
     )
 
-pub put-tagged-spec : {M : Type 1} → statement M
-put-tagged-spec = tie.close (tie.spec (λ c. search rules) (λ c κs. search rules) (λ c. search rules) put-tags-requires (λ c. search rules)
+pub put_tagged_spec : {M : Type 1} → statement M
+put_tagged_spec = tie.close (tie.spec (λ c. search rules) (λ c κs. search rules) (λ c. search rules) put-tags-requires (λ c. search rules)
     (λ c κs. search rules) mul-part (λ c κs. search rules) put-write-requires (λ c. search rules) returns)

@@ -13,7 +13,7 @@ use Rattle.client.proofs.prepare.put_write.Tie as tie
 nonce-size : (c : tie.Start) → length c.args.nonce.bytes ≡ nonce_size
 nonce-size c = search rules
 
-put-candidate-requires : tie.Need-put-candidate-requires
+put-candidate-requires : tie.Need-put_candidate-requires
 unfolding shelf
 put-candidate-requires c κs =
     let at-start = c.before.before.before.before.before.before in
@@ -30,12 +30,12 @@ returns c =
     let z = nonce-size at-start in
     let l = length-append a.stamp.now (a.nonce.bytes ++ a.tags.now) in
     let k = length-append a.nonce.bytes a.tags.now in
-    c.before.before.put-offer.ensures ∙ rw (
-      at-put-candidate.put-candidate.ensures,
+    c.before.before.put_offer.ensures ∙ rw (
+      at-put-candidate.put_candidate.ensures,
       content-stays a.call
           a.kept.now (a.stamp.now ++ (a.nonce.bytes ++ a.tags.now)) p.1.1.0 (omega
           (arith, l, k, z, p.1.0, p.1.1.1.0, p.1.1.1.1)),
     )
 
-pub put-write-spec : {M : Type 1} → statement M
-put-write-spec = tie.close (tie.spec (λ c. search rules) put-candidate-requires (λ c κs. search rules) (λ c. search rules) returns)
+pub put_write_spec : {M : Type 1} → statement M
+put_write_spec = tie.close (tie.spec (λ c. search rules) put-candidate-requires (λ c κs. search rules) (λ c. search rules) returns)

@@ -7,18 +7,18 @@ use borrow.Author.Rules.{rules}
 use Rattle.client.proofs.refusals.bad_client.Statement.{statement}
 use Rattle.client.proofs.refusals.bad_client.Tie as tie
 
-no_write : (c : tie.Then1) → of_write c.before.before.args.kind ≡ false
-no_write c = not-true _ (sym c.before.outside.ensures ∙ c.if1.true)
+no_write : (c : tie.Then-outside) → of_write c.before.before.args.kind ≡ false
+no_write c = not-true _ (sym c.before.outside.ensures ∙ c.if-outside.true)
 
-a_write : (c : tie.Else1) → of_write c.before.before.args.kind ≡ true
-a_write c = not-false _ (sym c.before.outside.ensures ∙ c.if1.false)
+a_write : (c : tie.Else-outside) → of_write c.before.before.args.kind ≡ true
+a_write c = not-false _ (sym c.before.outside.ensures ∙ c.if-outside.false)
 
-returns : tie.Need-returns
-returns c = rw (no_write c.before) c.outside2.ensures
+returns : tie.Need-returns-then-outside
+returns c = rw (no_write c.before) c.outside-then-outside.ensures
 
-returns-2 : tie.Need-returns-2
-returns-2 c = rw (a_write c.before) c.outside3.ensures
+returns-2 : tie.Need-returns
+returns-2 c = rw (a_write c.before) c.outside-2.ensures
 
-pub bad-client-spec : {M : Type 1} → statement M
-bad-client-spec = tie.close (tie.spec (λ c. search rules) (λ c. search rules) (λ c κs. search rules) (λ c κs. search rules) returns
+pub bad_client_spec : {M : Type 1} → statement M
+bad_client_spec = tie.close (tie.spec (λ c. search rules) (λ c. search rules) (λ c κs. search rules) (λ c κs. search rules) returns
     (λ c κs. search rules) returns-2)

@@ -6,5 +6,5 @@ use Rattle.client.proofs.refusals.servers.Tie as tie
 returns : tie.Need-returns
 returns c = c.servers.ensures
 
-pub servers-spec : {M : Type 1} → statement M
-servers-spec = tie.close (tie.spec (λ c. search rules) (λ c κs. search rules) returns)
+pub servers_spec : {M : Type 1} → statement M
+servers_spec = tie.close (tie.spec (λ c. search rules) (λ c κs. search rules) returns)

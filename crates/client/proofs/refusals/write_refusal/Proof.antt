@@ -13,36 +13,36 @@ use Rattle.client.proofs.refusals.write_refusal.Statement.{statement}
 use Rattle.client.proofs.refusals.write_refusal.Tie as tie
 
 -- the tests that do not apply
-past₁ : (c : tie.Else1) → bad_faults (shelf c.before.before.args.party.t) ≡ false
+past₁ : (c : tie.Else-outside) → bad_faults (shelf c.before.before.args.party.t) ≡ false
 unfolding shelf
-past₁ c = sym c.before.outside.ensures ∙ c.if1.false
+past₁ c = sym c.before.outside.ensures ∙ c.if-outside.false
 
-past₂ : (c : tie.Else2) → not (within 1 top_writer c.before.before.before.before.args.party.client) ≡ false
-past₂ c = sym c.before.outside2.ensures ∙ c.if2.false
+past₂ : (c : tie.Else-outside-2) → not (within 1 top_writer c.before.before.before.before.args.party.client) ≡ false
+past₂ c = sym c.before.outside-2.ensures ∙ c.if-outside-2.false
 
 -- Places far back, each named once: the place, and from where it is seen.
-abbrev else1-from-else3 : tie.Else3 → tie.Else1
+abbrev else1-from-else3 : tie.Else-n-gt-TOP_LENGTH → tie.Else-outside
 else1-from-else3 c = c.before.before.before
 
-past₃ : (c : tie.Else3) → ltb top_length (else1-from-else3 c).before.before.args.n ≡ false
-past₃ c = le-ltb _ _ c.if3.false
+past₃ : (c : tie.Else-n-gt-TOP_LENGTH) → ltb top_length (else1-from-else3 c).before.before.args.n ≡ false
+past₃ c = le-ltb _ _ c.if-n-gt-TOP_LENGTH.false
 
-past₄ : (c : tie.Else4) → in_hand (else1-from-else3 c.before.before).before.before.args.call ≡ false
-past₄ c = sym c.before.is-pending.ensures ∙ c.if4.false
+past₄ : (c : tie.Else-is_pending) → in_hand (else1-from-else3 c.before.before).before.before.args.call ≡ false
+past₄ c = sym c.before.is_pending.ensures ∙ c.if-is_pending.false
 
-returns : tie.Need-returns
+returns : tie.Need-returns-then-outside
 unfolding write_refusal_def shelf
-returns c = rw (sym c.before.outside.ensures ∙ c.if1.true)
+returns c = rw (sym c.before.outside.ensures ∙ c.if-outside.true)
 
-returns-2 : tie.Need-returns-2
+returns-2 : tie.Need-returns-then-outside-2
 unfolding write_refusal_def shelf
-returns-2 c = rw (past₁ c.before.before, sym c.before.outside2.ensures ∙ c.if2.true)
+returns-2 c = rw (past₁ c.before.before, sym c.before.outside-2.ensures ∙ c.if-outside-2.true)
 
-returns-3 : tie.Need-returns-3
+returns-3 : tie.Need-returns-then-n-gt-TOP_LENGTH
 unfolding write_refusal_def shelf
-returns-3 c = rw (past₁ c.before.before.before, past₂ c.before, lt-ltb _ _ c.if3.true)
+returns-3 c = rw (past₁ c.before.before.before, past₂ c.before, lt-ltb _ _ c.if-n-gt-TOP_LENGTH.true)
 
-returns-4 : tie.Need-returns-4
+returns-4 : tie.Need-returns-then-is_pending
 unfolding write_refusal_def shelf
 returns-4 c =
     let at-else3 = c.before.before in
@@ -50,10 +50,10 @@ returns-4 c =
       past₁ at-else3.before.before.before,
       past₂ at-else3.before,
       past₃ c.before.before,
-      sym c.before.is-pending.ensures ∙ c.if4.true,
+      sym c.before.is_pending.ensures ∙ c.if-is_pending.true,
     )
 
-returns-5 : tie.Need-returns-5
+returns-5 : tie.Need-returns-then-call-ge-TOP_NUMBER
 unfolding write_refusal_def shelf
 returns-5 c =
     let at-else3 = c.before.before.before.before in
@@ -66,7 +66,7 @@ returns-5 c =
       le-leb top_number at-else1.before.before.args.call.number (omega arith),
     )
 
-returns-6 : tie.Need-returns-6
+returns-6 : tie.Need-returns
 unfolding write_refusal_def shelf
 returns-6 c =
     let at-else3 = c.before.before.before.before in
@@ -79,6 +79,6 @@ returns-6 c =
       lt-leb top_number at-else1.before.before.args.call.number (omega arith),
     )
 
-pub write-refusal-spec : {M : Type 1} → statement M
-write-refusal-spec = tie.close (tie.spec (λ c κs. search rules) returns (λ c κs. search rules) returns-2 returns-3 (λ c κs. search rules)
+pub write_refusal_spec : {M : Type 1} → statement M
+write_refusal_spec = tie.close (tie.spec (λ c κs. search rules) returns (λ c κs. search rules) returns-2 returns-3 (λ c κs. search rules)
     returns-4 (λ c. search rules) returns-5 returns-6)

@@ -10,39 +10,39 @@ use Rattle.client.proofs.replies.reply_refusal.Statement.{statement}
 use Rattle.client.proofs.replies.reply_refusal.Tie as tie
 
 -- the tests that do not apply
-past₁ : (c : tie.Else1) → foreign c.before.before.args.party.t c.before.before.args.party.client c.before.before.args.head ≡ false
-past₁ c = sym c.before.is-foreign.ensures ∙ c.if1.false
+past₁ : (c : tie.Else-is_foreign) → foreign c.before.before.args.party.t c.before.before.args.party.client c.before.before.args.head ≡ false
+past₁ c = sym c.before.is_foreign.ensures ∙ c.if-is_foreign.false
 
-past₂ : (c : tie.Else2) → eqb (awaited c.before.before.before.before.args.call) 0 ≡ false
-past₂ c = ne_eqb (awaited c.before.before.before.before.args.call) 0 (λ e. c.if2.false (c.before.awaited-kind.ensures ∙ e))
+past₂ : (c : tie.Else-kind-eq0) → eqb (awaited c.before.before.before.before.args.call) 0 ≡ false
+past₂ c = ne_eqb (awaited c.before.before.before.before.args.call) 0 (λ e. c.if-kind-eq0.false (c.before.awaited_kind-kind.ensures ∙ e))
 
-returns : tie.Need-returns
+returns : tie.Need-returns-then-is_foreign
 unfolding reply_refusal_def
-returns c = rw (sym c.before.is-foreign.ensures ∙ c.if1.true)
+returns c = rw (sym c.before.is_foreign.ensures ∙ c.if-is_foreign.true)
 
-returns-2 : tie.Need-returns-2
+returns-2 : tie.Need-returns-then-kind-eq0
 unfolding reply_refusal_def
-returns-2 c = rw (past₁ c.before.before, sym c.before.awaited-kind.ensures ∙ c.if2.true)
+returns-2 c = rw (past₁ c.before.before, sym c.before.awaited_kind-kind.ensures ∙ c.if-kind-eq0.true)
 
-returns-3 : tie.Need-returns-3
+returns-3 : tie.Need-returns-then-is_other
 unfolding reply_refusal_def
 returns-3 c =
     rw (
       past₁ c.before.before.before.before,
       past₂ c.before.before,
-      rw c.before.before.before.awaited-kind.ensures at
-          (sym c.before.is-other.ensures ∙ c.if3.true),
+      rw c.before.before.before.awaited_kind-kind.ensures at
+          (sym c.before.is_other.ensures ∙ c.if-is_other.true),
     )
 
-returns-4 : tie.Need-returns-4
+returns-4 : tie.Need-returns
 unfolding reply_refusal_def
 returns-4 c =
     rw (
       past₁ c.before.before.before.before,
       past₂ c.before.before,
-      rw c.before.before.before.awaited-kind.ensures at
-          (sym c.before.is-other.ensures ∙ c.if3.false),
+      rw c.before.before.before.awaited_kind-kind.ensures at
+          (sym c.before.is_other.ensures ∙ c.if-is_other.false),
     )
 
-pub reply-refusal-spec : {M : Type 1} → statement M
-reply-refusal-spec = tie.close (tie.spec (λ c κs. search rules) returns (λ c κs. search rules) returns-2 (λ c κs. search rules) returns-3 returns-4)
+pub reply_refusal_spec : {M : Type 1} → statement M
+reply_refusal_spec = tie.close (tie.spec (λ c κs. search rules) returns (λ c κs. search rules) returns-2 (λ c κs. search rules) returns-3 returns-4)

@@ -14,42 +14,42 @@ use borrow.Author.Rules.{rules}
 use Rattle.client.proofs.rounds.count.Statement.{statement}
 use Rattle.client.proofs.rounds.count.Tie as tie
 
-abbrev invariant-loop : tie.invariant-loop
+abbrev invariant-loop : tie.invariant-loop-i
 invariant-loop n marks c₀ i₀ c i = (i ≤ n) × (c ≡ count_to i (marked marks))
 
-abbrev decreases-loop : tie.decreases-loop
+abbrev decreases-loop : tie.decreases-loop-i
 decreases-loop n marks c₀ i₀ c i = n - i
 
-loop-holds : tie.Need-loop-init invariant-loop decreases-loop
+loop-holds : tie.Need-loop-i-init invariant-loop decreases-loop
 loop-holds c = (omega arith, sym (count_none _))
 
-one-is : (c : tie.After-one-for invariant-loop decreases-loop)
-    → c.one-for.result ≡ bit (marked c.before.before.before.args.t1 (suc c.before.before.loop.i))
+one-is : (c : tie.After-one_for-c invariant-loop decreases-loop)
+    → c.one_for-c.result ≡ bit (marked c.before.before.before.args.t1 (suc c.before.before.loop-i.i))
 unfolding marked
-one-is c = c.one-for.ensures ∙ as-bit (not (eqb (get_or c.before.before.before.args.t1 c.before.before.loop.i 0) 0))
+one-is c = c.one_for-c.ensures ∙ as-bit (not (eqb (get_or c.before.before.before.args.t1 c.before.before.loop-i.i 0) 0))
   where
     as-bit : (b : Bool) → cond b 1 0 ≡ bit b
     as-bit true = refl
     as-bit false = refl
 
-one-le : (c : tie.After-one-for invariant-loop decreases-loop) → c.one-for.result ≤ 1
-one-le c = omega (arith, one-is c, bit_le (marked c.before.before.before.args.t1 (suc c.before.before.loop.i)))
+one-le : (c : tie.After-one_for-c invariant-loop decreases-loop) → c.one_for-c.result ≤ 1
+one-le c = omega (arith, one-is c, bit_le (marked c.before.before.before.args.t1 (suc c.before.before.loop-i.i)))
 
-add-c : tie.Need-overflow-add-c invariant-loop decreases-loop
+add-c : tie.Need-overflow_add-c invariant-loop decreases-loop
 add-c c =
-    let l = c.before.before.loop in
+    let l = c.before.before.loop-i in
     let a = c.before.before.before.args in
     omega (arith, l.invariant.1, l.invariant.0, count-le l.i (marked a.t1), one-le c, c.before.before.before.requires)
 
-loop-again : tie.Need-loop-preserved invariant-loop decreases-loop
+loop-again : tie.Need-loop-i-preserved invariant-loop decreases-loop
 loop-again c =
-    let l = c.before.before.loop in
+    let l = c.before.before.loop-i in
     let a = c.before.before.before.args in
     (omega arith, omega (arith, l.invariant.1, count_more l.i (marked a.t1), one-is c))
 
 returns : tie.Need-returns invariant-loop decreases-loop
 returns c =
-    let l = c.before.loop in
+    let l = c.before.loop-i in
     let e : l.i ≡ c.before.before.args.n = omega arith in
     l.invariant.1 ∙ rw e
 

@@ -8,5 +8,5 @@ returns : tie.Need-returns
 unfolding fresh
 returns c = search rules
 
-pub fresh-tally-spec : {M : Type 1} → statement M
-fresh-tally-spec = tie.close (tie.spec returns)
+pub fresh_tally_spec : {M : Type 1} → statement M
+fresh_tally_spec = tie.close (tie.spec returns)

@@ -6,5 +6,5 @@ use Rattle.client.proofs.rounds.is_full.Tie as tie
 returns : tie.Need-returns
 returns c = rw c.before.quorum.ensures
 
-pub is-full-spec : {M : Type 1} → statement M
-is-full-spec = tie.close (tie.spec (λ c κs. search rules) (λ c. search rules) returns)
+pub is_full_spec : {M : Type 1} → statement M
+is_full_spec = tie.close (tie.spec (λ c κs. search rules) (λ c. search rules) returns)

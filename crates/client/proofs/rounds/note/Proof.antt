@@ -14,5 +14,5 @@ returns c =
     let w : length a.tally.marks ≡ 13 = search rules in
     c.recount.ensures ∙ noted_is a.t a.tally a.server p.1.0 (omega (arith, p.1.1))
 
-pub note-spec : {M : Type 1} → statement M
-note-spec = tie.close (tie.spec (λ c. search rules) (λ c. search rules) (λ c κs. search rules) returns)
+pub note_spec : {M : Type 1} → statement M
+note_spec = tie.close (tie.spec (λ c. search rules) (λ c. search rules) (λ c κs. search rules) returns)

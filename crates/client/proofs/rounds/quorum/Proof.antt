@@ -7,7 +7,7 @@ use borrow.Author.Rules.{rules}
 use Rattle.client.proofs.rounds.quorum.Statement.{statement}
 use Rattle.client.proofs.rounds.quorum.Tie as tie
 
-sub-result : tie.Need-overflow-sub-result
+sub-result : tie.Need-overflow_sub-result
 unfolding shelf
 sub-result c = let e : c.servers.result ≡ 3 * c.before.args.t + 1 = c.servers.ensures in omega arith
 
@@ -15,5 +15,5 @@ returns : tie.Need-returns
 unfolding shelf quorum
 returns c = rw c.servers.ensures
 
-pub quorum-spec : {M : Type 1} → statement M
-quorum-spec = tie.close (tie.spec (λ c κs. search rules) sub-result returns)
+pub quorum_spec : {M : Type 1} → statement M
+quorum_spec = tie.close (tie.spec (λ c κs. search rules) sub-result returns)

@@ -18,5 +18,5 @@ returns : tie.Need-returns
 unfolding counted
 returns c = rw (c.count.ensures, c.before.servers.ensures)
 
-pub recount-spec : {M : Type 1} → statement M
-recount-spec = tie.close (tie.spec (λ c κs. search rules) count-requires returns)
+pub recount_spec : {M : Type 1} → statement M
+recount_spec = tie.close (tie.spec (λ c κs. search rules) count-requires returns)

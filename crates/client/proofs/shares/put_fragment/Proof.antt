@@ -15,18 +15,18 @@ use Rattle.client.proofs.shares.put_fragment.Statement.{statement}
 use Rattle.client.proofs.shares.put_fragment.Tie as tie
 
 -- Places far back, each named once: the place, and from where it is seen.
-abbrev start-from-content : tie.After-content → tie.Start
+abbrev start-from-content : tie.After-content-content → tie.Start
 start-from-content c = c.before.before.before.before
 
-abbrev content-from-part : tie.After-part → tie.After-content
+abbrev content-from-part : tie.After-part-fragment → tie.After-content-content
 content-from-part c = c.before.before.before.before
 
 -- the fragment in its array is that of the server
-made : (c : tie.After-part)
+made : (c : tie.After-part-fragment)
     → let a = (start-from-content (content-from-part c)).args in
     let r = content_of a.call a.kept.now in
-    (c.part.result.now ≡ fragment (shelf a.t).points (shelf a.t).threshold r (suc a.i))
-    × (length c.part.result.now ≡ fragment_size_def (shelf a.t).threshold (length r))
+    (c.part-fragment.result.now ≡ fragment (shelf a.t).points (shelf a.t).threshold r (suc a.i))
+    × (length c.part-fragment.result.now ≡ fragment_size_def (shelf a.t).threshold (length r))
 made c =
     let at-content = content-from-part c in
     let at-start = start-from-content at-content in
@@ -34,18 +34,18 @@ made c =
     let p = at-start.pre in
     let r = content_of a.call a.kept.now in
     let k = content_short a.call a.kept.now in
-    let e : c.part.result.now ≡ fragment (shelf a.t).points (shelf a.t).threshold r (suc a.i) =
-    c.part.ensures ∙ fragment-cut a.t a.i r p.0 p.1.0 p.1.1.0 k c.before.before.before.fragment.result
-    (rw at-content.content.ensures.0 at c.before.before.before.fragment.ensures) in
+    let e : c.part-fragment.result.now ≡ fragment (shelf a.t).points (shelf a.t).threshold r (suc a.i) =
+    c.part-fragment.ensures ∙ fragment-cut a.t a.i r p.0 p.1.0 p.1.1.0 k c.before.before.before.fragment-made.result
+    (rw at-content.content.ensures.0 at c.before.before.before.fragment-made.ensures) in
     (e, ap length e ∙ piece-length a.t a.i r p.0 p.1.0 p.1.1.0 k)
 
 few : (c : tie.Start) → suc c.args.i ≤ most_servers
 few c = omega (arith, c.requires.1.1.0, servers-few c.args.t c.requires.1.0)
 
-abbrev part-from-slice-known3 : tie.After-slice-known3 → tie.After-part
+abbrev part-from-slice-known3 : tie.After-slice_known-3-1 → tie.After-part-fragment
 part-from-slice-known3 c = c.before.before.before.before.before.before
 
-put-start-requires : tie.Need-put-start-requires
+put-start-requires : tie.Need-put_start-requires
 put-start-requires c κs =
     let at_part = part-from-slice-known3 c.before in
     let at-content = content-from-part at_part in
@@ -63,13 +63,13 @@ returns c =
     let at-start = start-from-content at-content in
     let a = at-start.args in
     let m = made at_part in (
-      c.before.before.put-start.ensures ∙ ap (put a.kept.now (replies_place + reply_slot * a.i)) (start-made a.t
+      c.before.before.put_start.ensures ∙ ap (put a.kept.now (replies_place + reply_slot * a.i)) (start-made a.t
           (content_of a.call a.kept.now) (suc a.i) at-content.content.ensures.0 m.0),
-      at-slice-known3.before.before.write-at.ensures ∙ rw (at-slice-known3.before.before.before.before.before.digest.ensures, m.0),
+      at-slice-known3.before.before.write_at.ensures ∙ rw (at-slice-known3.before.before.before.before.before.digest-digest.ensures, m.0),
     )
 
-pub put-fragment-spec : {M : Type 1} → statement M
-put-fragment-spec = tie.close (tie.spec (λ c κs. search rules) (λ c. omega (arith, few c.before.before.before.before))
+pub put_fragment_spec : {M : Type 1} → statement M
+put_fragment_spec = tie.close (tie.spec (λ c κs. search rules) (λ c. omega (arith, few c.before.before.before.before))
     (λ c κs. search rules) (λ c. search rules) (λ c κs. search rules) (λ c κs. search rules) (λ c. search rules) (λ c. search rules)
     (λ c κs. search rules) (λ c. omega (arith, few (start-from-content (content-from-part (part-from-slice-known3 c)))))
     (λ c. omega (arith, few (start-from-content (content-from-part (part-from-slice-known3 c))))) put-start-requires (λ c. search rules)

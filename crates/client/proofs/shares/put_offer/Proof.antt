@@ -18,23 +18,23 @@ use Rattle.client.proofs.shares.put_offer.Tie as tie
 digest-size : (c : tie.Start) → length c.args.digest ≡ digest_size
 digest-size c = search rules
 
-put-parts-requires : tie.Need-put-parts-requires
+put-parts-requires : tie.Need-put_parts-requires
 put-parts-requires c κs =
     let at-start = c.before.before.before.before.before.before in
     let p = at-start.requires in
     (p.0, (p.1.0, (p.1.1.0, omega (arith, servers-few at-start.args.t p.1.0, p.1.1.1))))
 
 -- Places far back, each named once: the place, and from where it is seen.
-abbrev content-from-put-parts : tie.After-put-parts → tie.After-content
+abbrev content-from-put-parts : tie.After-put_parts → tie.After-content-n
 content-from-put-parts c = c.before.before.before
 
-abbrev start-from-content : tie.After-content → tie.Start
+abbrev start-from-content : tie.After-content-n → tie.Start
 start-from-content c = c.before.before.before.before
 
-abbrev put-parts-from-servers : tie.After-servers → tie.After-put-parts
+abbrev put-parts-from-servers : tie.After-servers → tie.After-put_parts
 put-parts-from-servers c = c.before.before.before.before
 
-abbrev put-parts-from-part : tie.After-part → tie.After-put-parts
+abbrev put-parts-from-part : tie.After-part → tie.After-put_parts
 put-parts-from-part c = put-parts-from-servers c.before.before.before
 
 -- there are few servers, and each has its tag
@@ -64,7 +64,7 @@ back c =
     at-put-parts.put-parts.ensures.1 (omega (arith, s, l, p.1.1.1))
     (omega (arith, l, servers-few a.t p.1.0, length-replicate {A = ℕ} common_room 0))
 
-put-ends-requires : tie.Need-put-ends-requires
+put-ends-requires : tie.Need-put_ends-requires
 put-ends-requires c κs =
     let at-content = content-from-put-parts (put-parts-from-part c) in
     let at-start = start-from-content at-content in
@@ -85,10 +85,10 @@ returns c =
     let at-start = start-from-content at-content in
     let a = at-start.args in
     let p = at-start.pre in
-    c.before.before.put-ends.ensures ∙ offered-run a.t (content_of a.call a.kept.now) p.0 p.1.0
+    c.before.before.put_ends.ensures ∙ offered-run a.t (content_of a.call a.kept.now) p.0 p.1.0
     (content_short a.call a.kept.now) a.digest a.tags.now (digest-size at-start) p.1.1.1 a.kept.now p.1.1.0
     at-put-parts.put-parts.ensures.0 at-content.content.ensures.0 (back at_part)
 
-pub put-offer-spec : {M : Type 1} → statement M
-put-offer-spec = tie.close (tie.spec (λ c κs. search rules) (λ c. search rules) put-parts-requires (λ c κs. search rules)
+pub put_offer_spec : {M : Type 1} → statement M
+put_offer_spec = tie.close (tie.spec (λ c κs. search rules) (λ c. search rules) put-parts-requires (λ c κs. search rules)
     (λ c. omega (arith, few c)) (λ c. omega (arith, few c)) (λ c. omega (arith, few c)) (λ c. search rules) (λ c κs. search rules) put-ends-requires (λ c. search rules) returns)

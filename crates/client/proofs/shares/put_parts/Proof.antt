@@ -16,18 +16,18 @@ digest-size : (c : tie.Start) → length c.args.digest ≡ digest_size
 digest-size c = search rules
 
 -- Places far back, each named once: the place, and from where it is seen.
-abbrev put-fragments-from-servers : tie.After-servers → tie.After-put-fragments
+abbrev put-fragments-from-servers : tie.After-servers → tie.After-put_fragments
 put-fragments-from-servers c = c.before.before.before.before.before.before
 
-abbrev start-from-put-fragments : tie.After-put-fragments → tie.Start
+abbrev start-from-put-fragments : tie.After-put_fragments → tie.Start
 start-from-put-fragments c = c.before.before.before.before.before.before
 
-mul-put-common : tie.Need-overflow-mul-put-common
+mul-put-common : tie.Need-overflow_mul-servers
 mul-put-common c =
     let at-start = start-from-put-fragments (put-fragments-from-servers c) in
     omega (arith, c.servers.ensures, servers-few at-start.args.t at-start.pre.1.0)
 
-put-common-requires : tie.Need-put-common-requires
+put-common-requires : tie.Need-put_common-requires
 put-common-requires c κs = omega (arith, c.servers.ensures, (start-from-put-fragments (put-fragments-from-servers c)).requires.1.1.1)
 
 returns : tie.Need-returns
@@ -39,11 +39,11 @@ returns c =
     let f = at-put-fragments.put-fragments.ensures in
     let l = length-append a.digest a.tags.now in (
       f.0,
-      c.before.before.put-common.ensures ∙ rw (at-servers.servers.ensures, f.1)
+      c.before.before.put_common.ensures ∙ rw (at-servers.servers.ensures, f.1)
           (digests_then a.t (content_of a.call a.kept.now) a.common.now (a.digest ++ a.tags.now) (shelf a.t).servers
           (omega (arith, digest-size at-start, l, at-start.pre.1.1.1))),
     )
 
-pub put-parts-spec : {M : Type 1} → statement M
-put-parts-spec = tie.close (tie.spec (λ c κs. search rules) (λ c κs. search rules) mul-put-common put-common-requires (λ c. search rules)
+pub put_parts_spec : {M : Type 1} → statement M
+put_parts_spec = tie.close (tie.spec (λ c κs. search rules) (λ c κs. search rules) mul-put-common put-common-requires (λ c. search rules)
     (λ c. search rules) returns)

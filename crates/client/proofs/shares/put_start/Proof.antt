@@ -12,9 +12,9 @@ returns c =
     let at-bytes2 = at-write-at.before.before.before in
     let at-start = at-bytes2.before.before.before in
     let a = at-start.args in
-    c.before.before.write-at2.ensures ∙ rw (at-write-at.write-at.ensures, at-bytes2.bytes2.ensures)
+    c.before.before.write_at-2.ensures ∙ rw (at-write-at.write_at.ensures, at-bytes2.bytes2-size.ensures)
     (put_put a.kept.now a.at 2 (print2 a.n) a.fragment.now refl at-start.requires.1)
 
-pub put-start-spec : {M : Type 1} → statement M
-put-start-spec = tie.close (tie.spec (λ c. search rules) (λ c κs. search rules) (λ c. search rules) (λ c κs. search rules) (λ c. search rules)
+pub put_start_spec : {M : Type 1} → statement M
+put_start_spec = tie.close (tie.spec (λ c. search rules) (λ c κs. search rules) (λ c. search rules) (λ c κs. search rules) (λ c. search rules)
     (λ c κs. search rules) (λ c. search rules) returns)

@@ -21,8 +21,8 @@ unfolding stamp_message_def
 returns c =
     let at-put-number4 = c.before.before.before.before in
     let a = at-put-number4.before.before.args in
-    (placed_then (print4 a.number) (a.writer ∷ []) at-put-number4.put-number4.ensures c.before.put_byte.ensures (omega arith)).bytes
+    (placed_then (print4 a.number) (a.writer ∷ []) at-put-number4.put_number4-n.ensures c.before.put_byte.ensures (omega arith)).bytes
     ∙ over_zeros a.number a.writer
 
-pub stamp-message-spec : {M : Type 1} → statement M
-stamp-message-spec = tie.close (tie.spec (λ c. search rules) (λ c κs. search rules) (λ c. search rules) (λ c κs. search rules) returns)
+pub stamp_message_spec : {M : Type 1} → statement M
+stamp_message_spec = tie.close (tie.spec (λ c. search rules) (λ c κs. search rules) (λ c. search rules) (λ c κs. search rules) returns)

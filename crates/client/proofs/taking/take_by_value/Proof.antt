@@ -12,5 +12,5 @@ returns c =
     ∙ core_take_lem a.party.t a.party.client a.writers.now a.keys.now a.call a.kept.now a.reply.now a.out.now
     (search rules)
 
-pub take-by-value-spec : {M : Type 1} → statement M
-take-by-value-spec = tie.close (tie.spec (λ c κs. search rules) (λ c. search rules) returns)
+pub take_by_value_spec : {M : Type 1} → statement M
+take_by_value_spec = tie.close (tie.spec (λ c κs. search rules) (λ c. search rules) returns)

@@ -13,10 +13,10 @@ use Rattle.client.proofs.taking.take_read_round.Statement.{statement}
 use Rattle.client.proofs.taking.take_read_round.Tie as tie
 
 -- Places far back, each named once: the place, and from where it is seen.
-abbrev shared-slice-known-from-struct-known : tie.After-struct-known → tie.After-shared-slice-known
+abbrev shared-slice-known-from-struct-known : tie.After-struct_known-1 → tie.After-shared_slice_known-1
 shared-slice-known-from-struct-known c = c.before.before.before
 
-take-collect-requires : tie.Need-take-collect-requires
+take-collect-requires : tie.Need-take_collect-requires
 take-collect-requires c κs =
     let at-match = c.before.before in
     let at-shared-slice-known = shared-slice-known-from-struct-known at-match.before in
@@ -27,10 +27,10 @@ take-collect-requires c κs =
     let r = ready-server a.party.t a.party.client a.call a.reply.now a.head p.0 in
     let l : length (drop head_size a.reply.now) ≤ candidate_slot = collect-length a.party.t a.party.client a.call a.reply.now
     a.head p.0
-    (λ k. (at-shared-slice-known.shared-slice-known.given k).fits) at-match.match.keys1 in
+    (λ k. (at-shared-slice-known.shared-slice-known.given k).fits) at-match.in-4.keys1 in
     (f.1, (r.0, (r.1, (p.1.1.0, rw c.rest.ensures l))))
 
-returns : tie.Need-returns
+returns : tie.Need-returns-in-4
 returns c =
     let at-match = c.before.before.before.before.before in
     let at-shared-slice-known = shared-slice-known-from-struct-known at-match.before in
@@ -39,14 +39,14 @@ returns c =
     let p = z.pre in
     λ writers keys. takes-collect a.party.t a.party.client writers keys a.call a.kept.now a.reply.now a.out.now a.head
     p.0 p.1.1.1
-    at-match.match.keys1 (λ k. (at-shared-slice-known.shared-slice-known.given k).fits) _
-    c.before.before.before.rest.ensures c.before.before.take-collect.result c.before.before.take-collect.ensures.0 _
-    c.before.before.take-collect.ensures.1
+    at-match.in-4.keys1 (λ k. (at-shared-slice-known.shared-slice-known.given k).fits) _
+    c.before.before.before.rest.ensures c.before.before.take_collect.result c.before.before.take_collect.ensures.0 _
+    c.before.before.take_collect.ensures.1
 
-returns-2 : tie.Need-returns-2
+returns-2 : tie.Need-returns-in-5
 returns-2 c = search rules
 
-take-repair-requires : tie.Need-take-repair-requires
+take-repair-requires : tie.Need-take_repair-requires
 take-repair-requires c κs =
     let z = (shared-slice-known-from-struct-known c.before.before.before).before.before in
     let a = z.args in
@@ -55,7 +55,7 @@ take-repair-requires c κs =
     let r = ready-server a.party.t a.party.client a.call a.reply.now a.head p.0 in
     (f.1, (r.0, (r.1, p.1.1.1)))
 
-returns-3 : tie.Need-returns-3
+returns-3 : tie.Need-returns-in_default
 returns-3 c =
     let at-match = c.before.before.before.before.before in
     let z = (shared-slice-known-from-struct-known at-match.before).before.before in
@@ -65,9 +65,9 @@ returns-3 c =
     let e : a.call.tally.round ≡ 6 = omega (arith, p.1.0, at-match.match.rest.0.1, at-match.match.rest.1) in
     λ writers keys. takes-repair a.party.t a.party.client writers keys a.call a.kept.now a.reply.now a.out.now a.head
     p.0 p.1.1.1
-    e c.before.before.take-repair.result c.before.before.take-repair.ensures.0 _ c.before.before.take-repair.ensures.1
+    e c.before.before.take_repair.result c.before.before.take_repair.ensures.0 _ c.before.before.take_repair.ensures.1
 
-pub take-read-round-spec : {M : Type 1} → statement M
-take-read-round-spec = tie.close (tie.spec (λ c. search rules) (λ c κs. search rules) take-collect-requires (λ c κs. search rules)
+pub take_read_round_spec : {M : Type 1} → statement M
+take_read_round_spec = tie.close (tie.spec (λ c. search rules) (λ c κs. search rules) take-collect-requires (λ c κs. search rules)
     take-repair-requires (λ c. search rules) returns (λ c. search rules) (λ c. search rules) returns-2 (λ c. search rules) (λ c. search rules)
     returns-3)

@@ -8,7 +8,7 @@ use borrow.Author.Rules.{rules}
 use Rattle.client.proofs.taking.take_reply.Statement.{statement}
 use Rattle.client.proofs.taking.take_reply.Tie as tie
 
-returns : tie.Need-returns
+returns : tie.Need-returns-in_default
 returns c =
     let z = c.before.before.before.before.before.before.before in
     let a = z.args in
@@ -18,38 +18,38 @@ returns c =
     c.refused.ensures
     (take_broken a.party.t a.party.client a.writers.now a.keys.now a.call a.kept.now a.reply.now a.out.now p.0
     p.1.0
-    (rw c.before.enum_told.given.1 at c.before.before.before.read-packet.ensures))
+    (rw c.before.enum_told-1.given.1 at c.before.before.before.read_packet.ensures))
 
 -- Places far back, each named once: the place, and from where it is seen.
-abbrev start-from-passed : tie.After-passed → tie.Start
+abbrev start-from-passed : tie.In-Value-2 → tie.Start
 start-from-passed c = c.before.before.before.before.before.before
 
-module _ (c : tie.After-passed) where
+module _ (c : tie.In-Value-2) where
   abbrev passed : Passed
-  passed = c.passed.given.0.0
+  passed = c.passed-1.given.0.0
 
   read : TookPacket (start-from-passed c).args.reply.now passed.head passed.label passed.number
-  read = rw c.passed.given.1 at c.before.before.read-packet.ensures
+  read = rw c.passed-1.given.1 at c.before.before.read_packet.ensures
 
-reply-refusal-requires : tie.Need-reply-refusal-requires
+reply-refusal-requires : tie.Need-reply_refusal-n-requires
 reply-refusal-requires c κs =
     let a = (start-from-passed c.before).args in
     server_range a.reply.now (passed c.before).head (read c.before).packet
 
-returns-2 : tie.Need-returns-2
+returns-2 : tie.Need-returns-then-n-ne0
 returns-2 c =
     let at-passed = c.before.before.before.before in
     let z = start-from-passed at-passed in
     let a = z.args in
     let p = z.pre in
     takes-refused a.party.t a.party.client a.writers.now a.keys.now a.call a.kept.now a.reply.now a.out.now
-    c.refused2.result _
-    c.refused2.ensures
+    c.refused-then-n-ne0.result _
+    c.refused-then-n-ne0.ensures
     (take_head a.party.t a.party.client a.writers.now a.keys.now a.call a.kept.now a.reply.now a.out.now p.0
-    p.1.0 (passed at-passed).head (read at-passed).packet c.before.before.reply-refusal.result
-    c.before.before.reply-refusal.ensures c.before.if1.true)
+    p.1.0 (passed at-passed).head (read at-passed).packet c.before.before.reply_refusal-n.result
+    c.before.before.reply_refusal-n.ensures c.before.if-n-ne0.true)
 
-take-round-requires : tie.Need-take-round-requires
+take-round-requires : tie.Need-take_round-requires
 take-round-requires c κs =
     let at-passed = c.before.before.before.before.before in
     let p = (start-from-passed at-passed).requires in (
@@ -57,14 +57,14 @@ take-round-requires c κs =
         decoded = (read at-passed).packet;
         faults = p.0;
         reader = p.1.0;
-        awaited = sym c.before.before.before.reply-refusal.ensures ∙ c.before.before.if1.false;
+        awaited = sym c.before.before.before.reply_refusal-n.ensures ∙ c.before.before.if-n-ne0.false;
       },
       (p.1.1, read at-passed),
     )
 
-returns-3 : tie.Need-returns-3
+returns-3 : tie.Need-returns
 returns-3 c = search rules
 
-pub take-reply-spec : {M : Type 1} → statement M
-take-reply-spec = tie.close (tie.spec (λ c κs. search rules) (λ c. search rules) (λ c. search rules) (λ c κs. search rules) returns
+pub take_reply_spec : {M : Type 1} → statement M
+take_reply_spec = tie.close (tie.spec (λ c κs. search rules) (λ c. search rules) (λ c. search rules) (λ c κs. search rules) returns
     reply-refusal-requires (λ c κs. search rules) returns-2 take-round-requires (λ c. search rules) (λ c. search rules) returns-3)

@@ -7,21 +7,21 @@ use Rattle.client.proofs.taking.take_round.Statement.{statement}
 use Rattle.client.proofs.taking.take_round.Tie as tie
 
 -- The start from the first local's place, which every need names.
-abbrev start-from-tally : tie.After-tally → tie.Start
+abbrev start-from-tally : tie.After-tally-1 → tie.Start
 start-from-tally c = c.before.before.before.before
 
-take-clock-requires : tie.Need-take-clock-requires
+take-clock-requires : tie.Need-take_clock-requires
 take-clock-requires c κs =
     let p = (start-from-tally c.before.before).requires in
-    (p.0, (c.before.if1.true, (p.1.0, p.1.1)))
+    (p.0, (c.before.if-round-eq-CLOCK.true, (p.1.0, p.1.1)))
 
-returns : tie.Need-returns
+returns : tie.Need-returns-then-round-eq-CLOCK
 returns c =
     let at-take-clock = c.before.before in
     let a = (start-from-tally at-take-clock.before.before.before).args in
-    at-take-clock.take-clock.ensures a.out.now refl
+    at-take-clock.take_clock.ensures a.out.now refl
 
-returns-2 : tie.Need-returns-2
+returns-2 : tie.Need-returns-then-out-lt-CONTENT_ROOM
 returns-2 c =
     let z = start-from-tally c.before.before.before in
     let a = z.args in
@@ -30,30 +30,30 @@ returns-2 c =
     c.refused.result 15
     c.refused.ensures
     (round_short a.party.t a.party.client a.writers.now a.keys.now a.call a.kept.now a.reply.now a.out.now
-    a.passed.head p.0 c.before.before.if1.false (omega (arith, c.before.if2.true)))
+    a.passed.head p.0 c.before.before.if-round-eq-CLOCK.false (omega (arith, c.before.if-out-lt-CONTENT_ROOM.true)))
 
-take-write-round-requires : tie.Need-take-write-round-requires
+take-write-round-requires : tie.Need-take_write_round-requires
 take-write-round-requires c κs =
     let at-if1 = c.before.before.before in
     let z = start-from-tally at-if1.before in
     let a = z.args in
     let p = z.pre in
     let q = ready-round a.party.t a.party.client a.call a.reply.now a.passed.head p.0 in
-    (p.0, (omega (arith, at-if1.if1.false), (c.before.if3.true, p.1.1)))
+    (p.0, (omega (arith, at-if1.if-round-eq-CLOCK.false), (c.before.if-round-lt-COLLECT.true, p.1.1)))
 
-returns-3 : tie.Need-returns-3
+returns-3 : tie.Need-returns-then-round-lt-COLLECT
 returns-3 c =
     let at-if2 = c.before.before.before in
     let a = (start-from-tally at-if2.before.before).args in
-    c.take-write-round.ensures a.writers.now a.keys.now a.out.now (omega (arith, at-if2.if2.false))
+    c.take_write_round.ensures a.writers.now a.keys.now a.out.now (omega (arith, at-if2.if-out-lt-CONTENT_ROOM.false))
 
-returns-4 : tie.Need-returns-4
+returns-4 : tie.Need-returns
 returns-4 c =
     let at-take-read-round = c.before.before.before.before in
     let at-if3 = at-take-read-round.before.before.before in
     let a = (start-from-tally at-if3.before.before.before).args in
-    at-take-read-round.take-read-round.ensures a.writers.now a.keys.now
+    at-take-read-round.take_read_round.ensures a.writers.now a.keys.now
 
-pub take-round-spec : {M : Type 1} → statement M
-take-round-spec = tie.close (tie.spec take-clock-requires (λ c. search rules) returns (λ c κs. search rules) returns-2 take-write-round-requires
+pub take_round_spec : {M : Type 1} → statement M
+take_round_spec = tie.close (tie.spec take-clock-requires (λ c. search rules) returns (λ c κs. search rules) returns-2 take-write-round-requires
     (λ c. search rules) returns-3 (λ c κs. search rules) (λ c. search rules) (λ c. search rules) returns-4)

@@ -14,7 +14,7 @@ use Rattle.client.proofs.taking.take_write_round.Statement.{statement}
 use Rattle.client.proofs.taking.take_write_round.Tie as tie
 
 -- Places far back, each named once: the place, and from where it is seen.
-abbrev start-from-known : tie.After-struct-known → tie.Start
+abbrev start-from-known : tie.After-struct_known-1 → tie.Start
 start-from-known c = c.before.before.before.before.before
 
 -- a store reply's number is its code, the byte after the head
@@ -27,13 +27,13 @@ told c e =
     ∙ ap body_number (body_at_lem a.party.t a.party.client [] (λ i. []) a.call [] [] a.reply.now a.passed.head p.0 2 e refl)
     ∙ get_or-drop head_size a.reply.now 0 0
 
-cast-take-store : tie.Need-overflow-cast-take-store
+cast-take-store : tie.Need-overflow_cast-passed
 cast-take-store c =
     let at-known = c.before.before in
-    let h = at-known.before.before.before.shared-slice-known2.given head_size in
-    omega (arith, told (start-from-known at-known) c.before.if1.true)
+    let h = at-known.before.before.before.shared_slice_known-2-1.given head_size in
+    omega (arith, told (start-from-known at-known) c.before.if-round-eq-STORE.true)
 
-take-store-requires : tie.Need-take-store-requires
+take-store-requires : tie.Need-take_store-requires
 take-store-requires c κs =
     let z = start-from-known c.before.before in
     let a = z.args in
@@ -42,16 +42,16 @@ take-store-requires c κs =
       ready-server a.party.t a.party.client a.call a.reply.now a.passed.head p.0,
     )
 
-returns : tie.Need-returns
+returns : tie.Need-returns-then-round-eq-STORE
 returns c =
     let z = start-from-known c.before.before.before in
     let a = z.args in
     let p = z.pre in
-    let e = c.before.before.if1.true in
+    let e = c.before.before.if-round-eq-STORE.true in
     λ writers keys output room. takes-store a.party.t a.party.client writers keys a.call a.kept.now a.reply.now output
-    a.passed.head p.0 room e _ (told z e) c.take-store.result c.take-store.ensures
+    a.passed.head p.0 room e _ (told z e) c.take_store.result c.take_store.ensures
 
-take-complete-requires : tie.Need-take-complete-requires
+take-complete-requires : tie.Need-take_complete-requires
 take-complete-requires c κs =
     let z = start-from-known c.before in
     let a = z.args in
@@ -60,14 +60,14 @@ take-complete-requires c κs =
       ready-server a.party.t a.party.client a.call a.reply.now a.passed.head p.0,
     )
 
-returns-2 : tie.Need-returns-2
+returns-2 : tie.Need-returns
 returns-2 c =
     let z = start-from-known c.before.before in
     let a = z.args in
     let p = z.pre in
-    let e : a.call.tally.round ≡ 3 = omega (arith, p.1.0, p.1.1.0, c.before.if1.false) in
+    let e : a.call.tally.round ≡ 3 = omega (arith, p.1.0, p.1.1.0, c.before.if-round-eq-STORE.false) in
     λ writers keys output room. takes-complete a.party.t a.party.client writers keys a.call a.kept.now a.reply.now output
-    a.passed.head p.0 room e c.take-complete.result c.take-complete.ensures
+    a.passed.head p.0 room e c.take_complete.result c.take_complete.ensures
 
-pub take-write-round-spec : {M : Type 1} → statement M
-take-write-round-spec = tie.close (tie.spec (λ c. search rules) cast-take-store take-store-requires returns take-complete-requires returns-2)
+pub take_write_round_spec : {M : Type 1} → statement M
+take_write_round_spec = tie.close (tie.spec (λ c. search rules) cast-take-store take-store-requires returns take-complete-requires returns-2)

@@ -4,17 +4,17 @@ use borrow.Author.Rules.{rules}
 use Rattle.columns.proofs.lines.next_line.Statement.{statement}
 use Rattle.columns.proofs.lines.next_line.Tie as tie
 
-returns : tie.Need-returns
+returns : tie.Need-returns-then-end-text
 returns c =
     let at-start = c.before.before.before in
-    let e = c.before.line-end.ensures in
-    rw e (next_here at-start.args.text.now at-start.args.at (rw e at c.if1.true))
+    let e = c.before.line_end-end.ensures in
+    rw e (next_here at-start.args.text.now at-start.args.at (rw e at c.if-end-text.true))
 
-returns-2 : tie.Need-returns-2
+returns-2 : tie.Need-returns
 returns-2 c =
     let at-start = c.before.before.before in
-    let e = c.before.line-end.ensures in
-    next_none at-start.args.text.now at-start.args.at (rw e at c.if1.false)
+    let e = c.before.line_end-end.ensures in
+    next_none at-start.args.text.now at-start.args.at (rw e at c.if-end-text.false)
 
-pub next-line-spec : {M : Type 1} → statement M
-next-line-spec = tie.close (tie.spec (λ c κs. search rules) (λ c. search rules) returns returns-2)
+pub next_line_spec : {M : Type 1} → statement M
+next_line_spec = tie.close (tie.spec (λ c κs. search rules) (λ c. search rules) returns returns-2)

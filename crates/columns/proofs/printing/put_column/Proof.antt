@@ -10,46 +10,46 @@ use borrow.Author.Rules.{rules}
 use Rattle.columns.proofs.printing.put_column.Statement.{statement}
 use Rattle.columns.proofs.printing.put_column.Tie as tie
 
-abbrev invariant-loop : tie.invariant-loop
+abbrev invariant-loop : tie.invariant-loop-i
 invariant-loop out₀ at column i₀ out i = (i ≤ 8) × (out ≡ paste out₀ at column i)
 
-abbrev decreases-loop : tie.decreases-loop
+abbrev decreases-loop : tie.decreases-loop-i
 decreases-loop out₀ at column i₀ out i = 8 - i
 
 eight : (c : tie.Start invariant-loop decreases-loop) → length c.args.t3 ≡ 8
 eight c = search rules
 
-loop-holds : tie.Need-loop-init invariant-loop decreases-loop
+loop-holds : tie.Need-loop-i-init invariant-loop decreases-loop
 loop-holds c = (omega arith, paste-zero c.args.out.now c.args.at c.args.t3)
 
 -- the output keeps its length
-module _ (c : tie.At-loop invariant-loop decreases-loop) where
-  same_size : length c.loop.out ≡ length c.before.args.out.now
+module _ (c : tie.At-loop-i invariant-loop decreases-loop) where
+  same_size : length c.loop-i.out ≡ length c.before.args.out.now
   same_size =
       let a = c.before.args in
       let e = eight c.before in
-      ap length c.loop.invariant.1 ∙ length-paste a.out.now a.at a.t3 c.loop.i (omega arith) (omega arith)
+      ap length c.loop-i.invariant.1 ∙ length-paste a.out.now a.at a.t3 c.loop-i.i (omega arith) (omega arith)
 
-slice-write-out : tie.Need-slice-write-out invariant-loop decreases-loop
+slice-write-out : tie.Need-bounds-out-at invariant-loop decreases-loop
 slice-write-out c = omega (arith, same_size c.before)
 
-loop-again : tie.Need-loop-preserved invariant-loop decreases-loop
+loop-again : tie.Need-loop-i-preserved invariant-loop decreases-loop
 loop-again c =
     let a = c.before.before.args in
-    let i = c.before.loop.i in
+    let i = c.before.loop-i.i in
     let e = eight c.before.before in (
       omega arith,
-      ap (λ (z : List ℕ). set z (a.at + i) (get_or a.t3 i 0)) c.before.loop.invariant.1
+      ap (λ (z : List ℕ). set z (a.at + i) (get_or a.t3 i 0)) c.before.loop-i.invariant.1
           ∙ paste-suc a.out.now a.at a.t3 i 0 (omega arith) (omega arith)
           ∙ ap (paste a.out.now a.at a.t3) (sym (add-one i)),
     )
 
-same_length : tie.Need-same-length invariant-loop decreases-loop
+same_length : tie.Need-shape_of-out invariant-loop decreases-loop
 same_length c = same_size c.before
 
 returns : tie.Need-returns invariant-loop decreases-loop
-returns c = let e : c.before.loop.i ≡ 8 = omega arith in c.before.loop.invariant.1 ∙ rw e
+returns c = let e : c.before.loop-i.i ≡ 8 = omega arith in c.before.loop-i.invariant.1 ∙ rw e
 
-pub put-column-spec : {M : Type 1} → statement M
-put-column-spec = tie.close (tie.spec invariant-loop decreases-loop loop-holds (λ c. search rules) (λ c. search rules) slice-write-out (λ c. search rules)
+pub put_column_spec : {M : Type 1} → statement M
+put_column_spec = tie.close (tie.spec invariant-loop decreases-loop loop-holds (λ c. search rules) (λ c. search rules) slice-write-out (λ c. search rules)
     (λ c. search rules) loop-again same_length returns)

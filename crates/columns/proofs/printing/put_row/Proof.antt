@@ -9,51 +9,51 @@ use borrow.Author.Rules.{rules}
 use Rattle.columns.proofs.printing.put_row.Statement.{statement}
 use Rattle.columns.proofs.printing.put_row.Tie as tie
 
-returns : tie.Need-returns
+returns : tie.Need-returns-then-out-at
 returns c =
     let a = c.before.before.before.args in
     no_room a.out.now a.at a.values.now (omega arith)
 
-returns-2 : tie.Need-returns-2
+returns-2 : tie.Need-returns-then-out-at-2
 returns-2 c =
     let a = c.before.before.before.before.args in
     no_room a.out.now a.at a.values.now
-    (room_short (length a.out.now) a.at (length a.values.now) c.before.if1.false c.if2.true)
+    (room_short (length a.out.now) a.at (length a.values.now) c.before.if-out-at.false c.if-out-at-2.true)
 
-module _ (c : tie.Else2) where
+module _ (c : tie.Else-out-at-2) where
   abbrev begin : tie.Start
   begin = c.before.before.before.before
 
   fits : begin.args.at + column_size * length begin.args.values.now < length begin.args.out.now
-  fits = room_fits (length begin.args.out.now) begin.args.at (length begin.args.values.now) c.before.if1.false c.if2.false
+  fits = room_fits (length begin.args.out.now) begin.args.at (length begin.args.values.now) c.before.if-out-at.false c.if-out-at-2.false
 
-put-columns-requires : tie.Need-put-columns-requires
+put-columns-requires : tie.Need-put_columns-requires
 put-columns-requires c κs = let h = fits c.before in omega arith
 
-abbrev else2-from-slice-known2 : tie.After-slice-known2 → tie.Else2
+abbrev else2-from-slice-known2 : tie.After-slice_known-2-1 → tie.Else-out-at-2
 else2-from-slice-known2 c = c.before.before.before.before
 
-mul-end : tie.Need-overflow-mul-end
+mul-end : tie.Need-overflow_mul-end
 mul-end c = let h = fits (else2-from-slice-known2 c) in omega arith
 
-add-end : tie.Need-overflow-add-end
+add-end : tie.Need-overflow_add-end
 add-end c = let h = fits (else2-from-slice-known2 c) in omega arith
 
-slice-write-out : tie.Need-slice-write-out
-slice-write-out c = let h = fits (else2-from-slice-known2 c) in omega (arith, c.before.out.given)
+slice-write-out : tie.Need-bounds-out-end
+slice-write-out c = let h = fits (else2-from-slice-known2 c) in omega (arith, c.before.out-1.given)
 
-add-result : tie.Need-overflow-add-result
+add-result : tie.Need-overflow_add-result
 add-result c = let h = fits (else2-from-slice-known2 c) in omega arith
 
-same_length : tie.Need-same-length
-same_length c = length-set c.before.before.put-columns.new.0 _ _ ∙ c.before.out.given
+same_length : tie.Need-shape_of-out
+same_length c = length-set c.before.before.put_columns.new.0 _ _ ∙ c.before.out-1.given
 
-returns-3 : tie.Need-returns-3
+returns-3 : tie.Need-returns
 returns-3 c =
     let at-else2 = else2-from-slice-known2 c in
     let a = (begin at-else2).args in
-    put-newline a.out.now a.at a.values.now (fits at-else2) c.before.before.put-columns.ensures
+    put-newline a.out.now a.at a.values.now (fits at-else2) c.before.before.put_columns.ensures
 
-pub put-row-spec : {M : Type 1} → statement M
-put-row-spec = tie.close (tie.spec returns (λ c. search rules) (λ c. search rules) returns-2 put-columns-requires mul-end add-end slice-write-out
+pub put_row_spec : {M : Type 1} → statement M
+put_row_spec = tie.close (tie.spec returns (λ c. search rules) (λ c. search rules) returns-2 put-columns-requires mul-end add-end slice-write-out
     add-result same_length returns-3)

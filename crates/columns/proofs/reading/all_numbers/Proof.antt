@@ -11,43 +11,43 @@ use borrow.Author.Rules.{rules}
 use Rattle.columns.proofs.reading.all_numbers.Statement.{statement}
 use Rattle.columns.proofs.reading.all_numbers.Tie as tie
 
-abbrev invariant-loop : tie.invariant-loop
+abbrev invariant-loop : tie.invariant-loop-j
 invariant-loop text n j₀ j = is_read (numbers_in n text) ≡ is_read (left n text j)
 
-abbrev decreases-loop : tie.decreases-loop
+abbrev decreases-loop : tie.decreases-loop-j
 decreases-loop text n j₀ j = n - j
 
-loop-holds : tie.Need-loop-init invariant-loop decreases-loop
+loop-holds : tie.Need-loop-j-init invariant-loop decreases-loop
 loop-holds c = let n = c.before.args.n in let e : n - 0 ≡ n = omega arith in rw e
 
-module _ (c : tie.After-is-value invariant-loop decreases-loop) where
+module _ (c : tie.After-is_value invariant-loop decreases-loop) where
   abbrev text : List ℕ
   text = c.before.before.before.before.before.args.text.now
 
   abbrev j : ℕ
-  j = c.before.before.before.loop.j
+  j = c.before.before.before.loop-j.j
 
-  holds : c.is-value.result ≡ is_read (column_in text j)
-  holds = c.is-value.ensures ∙ ap is_read c.before.column-at.ensures
+  holds : c.is_value.result ≡ is_read (column_in text j)
+  holds = c.is_value.ensures ∙ ap is_read c.before.column_at.ensures
 
-returns : tie.Need-returns invariant-loop decreases-loop
+returns : tie.Need-returns-then-not-is_value invariant-loop decreases-loop
 returns c =
     let p = c.before in
     let at-loop = p.before.before.before in
-    sym (at-loop.loop.invariant ∙ left_stops _ (text p) (j p) (omega arith) (sym (holds p) ∙ not-true _ c.if1.true))
+    sym (at-loop.loop-j.invariant ∙ left_stops _ (text p) (j p) (omega arith) (sym (holds p) ∙ not-true _ c.if-not-is_value.true))
 
-loop-again : tie.Need-loop-preserved invariant-loop decreases-loop
+loop-again : tie.Need-loop-j-preserved invariant-loop decreases-loop
 loop-again c =
     let p = c.before in
     let at-loop = p.before.before.before in
-    at-loop.loop.invariant ∙ left_more _ (text p) (j p) (omega arith) (sym (holds p) ∙ not-false _ c.if1.false)
+    at-loop.loop-j.invariant ∙ left_more _ (text p) (j p) (omega arith) (sym (holds p) ∙ not-false _ c.if-not-is_value.false)
 
-returns-2 : tie.Need-returns-2 invariant-loop decreases-loop
+returns-2 : tie.Need-returns invariant-loop decreases-loop
 returns-2 c =
     let at-loop = c.before in
     let a = at-loop.before.before.args in
-    sym (at-loop.loop.invariant ∙ left_none a.n a.text.now at-loop.loop.j (omega arith))
+    sym (at-loop.loop-j.invariant ∙ left_none a.n a.text.now at-loop.loop-j.j (omega arith))
 
-pub all-numbers-spec : {M : Type 1} → statement M
-all-numbers-spec = tie.close (tie.spec invariant-loop decreases-loop loop-holds (λ c. search rules) (λ c κs. search rules) (λ c κs. search rules) returns
+pub all_numbers_spec : {M : Type 1} → statement M
+all_numbers_spec = tie.close (tie.spec invariant-loop decreases-loop loop-holds (λ c. search rules) (λ c κs. search rules) (λ c κs. search rules) returns
     (λ c. search rules) (λ c. search rules) loop-again returns-2)

@@ -9,54 +9,54 @@ use borrow.Author.Rules.{rules}
 use Rattle.columns.proofs.reading.digits_from.Statement.{statement}
 use Rattle.columns.proofs.reading.digits_from.Tie as tie
 
-abbrev invariant-loop : tie.invariant-loop
+abbrev invariant-loop : tie.invariant-loop-i
 invariant-loop s from v₀ i₀ v i = (digits 0 (drop from s) ≡ digits v (drop i s)) × (v < tens i)
 
-abbrev decreases-loop : tie.decreases-loop
+abbrev decreases-loop : tie.decreases-loop-i
 decreases-loop s from v₀ i₀ v i = length s - i
 
-loop-holds : tie.Need-loop-init invariant-loop decreases-loop
+loop-holds : tie.Need-loop-i-init invariant-loop decreases-loop
 loop-holds c = (refl, tens_pos c.before.args.from)
 
-returns : tie.Need-returns invariant-loop decreases-loop
+returns : tie.Need-returns-then-x-lt-NOUGHT invariant-loop decreases-loop
 returns c =
     let at-loop = c.before.before.before in
     let s = at-loop.before.before.args.s.now in
-    rw (at-loop.loop.invariant.0, digits_low s at-loop.loop.i (omega arith) at-loop.loop.v c.if1.true)
+    rw (at-loop.loop-i.invariant.0, digits_low s at-loop.loop-i.i (omega arith) at-loop.loop-i.v c.if-x-lt-NOUGHT.true)
 
-returns-2 : tie.Need-returns-2 invariant-loop decreases-loop
+returns-2 : tie.Need-returns-then-x-gt-NINE invariant-loop decreases-loop
 returns-2 c =
     let at-loop = c.before.before.before.before in
     let s = at-loop.before.before.args.s.now in
-    rw (at-loop.loop.invariant.0, digits-high s at-loop.loop.i (omega arith) at-loop.loop.v c.before.if1.false c.if2.true)
+    rw (at-loop.loop-i.invariant.0, digits-high s at-loop.loop-i.i (omega arith) at-loop.loop-i.v c.before.if-x-lt-NOUGHT.false c.if-x-gt-NINE.true)
 
-mul-v : tie.Need-overflow-mul-v invariant-loop decreases-loop
-mul-v c = let f = tens-fits c.before.before.before.before.loop.i (omega arith) in omega arith
+mul-v : tie.Need-overflow_mul-v invariant-loop decreases-loop
+mul-v c = let f = tens-fits c.before.before.before.before.loop-i.i (omega arith) in omega arith
 
-add-v : tie.Need-overflow-add-v invariant-loop decreases-loop
+add-v : tie.Need-overflow_add-v invariant-loop decreases-loop
 add-v c =
     let at-loop = c.before.before.before.before.before in
-    let f = tens-fits (at-loop.loop.i + 1) (omega arith) in
-    let g = tens_more at-loop.loop.v at-loop.loop.i (get_or at-loop.before.before.args.s.now at-loop.loop.i 0 - 48)
-    at-loop.loop.invariant.1 (omega arith) in omega arith
+    let f = tens-fits (at-loop.loop-i.i + 1) (omega arith) in
+    let g = tens_more at-loop.loop-i.v at-loop.loop-i.i (get_or at-loop.before.before.args.s.now at-loop.loop-i.i 0 - 48)
+    at-loop.loop-i.invariant.1 (omega arith) in omega arith
 
-loop-again : tie.Need-loop-preserved invariant-loop decreases-loop
+loop-again : tie.Need-loop-i-preserved invariant-loop decreases-loop
 loop-again c =
     let at-loop = c.before.before.before.before.before in
     let s = at-loop.before.before.args.s.now in
-    let i = at-loop.loop.i in
-    let g = tens_more at-loop.loop.v i (get_or s i 0 - 48) at-loop.loop.invariant.1 (omega arith) in
+    let i = at-loop.loop-i.i in
+    let g = tens_more at-loop.loop-i.v i (get_or s i 0 - 48) at-loop.loop-i.invariant.1 (omega arith) in
     let e : c.wide.result ≡ get_or s i 0 - 48 = c.wide.ensures in (
-      at-loop.loop.invariant.0 ∙ digits_more s i (omega arith) at-loop.loop.v c.before.before.if1.false c.before.if2.false ∙ rw e,
+      at-loop.loop-i.invariant.0 ∙ digits_more s i (omega arith) at-loop.loop-i.v c.before.before.if-x-lt-NOUGHT.false c.before.if-x-gt-NINE.false ∙ rw e,
       rw e g,
     )
 
-returns-3 : tie.Need-returns-3 invariant-loop decreases-loop
+returns-3 : tie.Need-returns invariant-loop decreases-loop
 returns-3 c =
     let at-loop = c.before in
     let s = at-loop.before.before.args.s.now in
-    rw (at-loop.loop.invariant.0, digits-end s at-loop.loop.i at-loop.loop.v (omega arith))
+    rw (at-loop.loop-i.invariant.0, digits-end s at-loop.loop-i.i at-loop.loop-i.v (omega arith))
 
-pub digits-from-spec : {M : Type 1} → statement M
-digits-from-spec = tie.close (tie.spec invariant-loop decreases-loop loop-holds (λ c. search rules) returns returns-2 mul-v (λ c κs. search rules) add-v
+pub digits_from_spec : {M : Type 1} → statement M
+digits_from_spec = tie.close (tie.spec invariant-loop decreases-loop loop-holds (λ c. search rules) returns returns-2 mul-v (λ c κs. search rules) add-v
     (λ c. search rules) (λ c. search rules) loop-again returns-3)

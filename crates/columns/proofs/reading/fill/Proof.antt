@@ -9,46 +9,46 @@ use borrow.Author.Rules.{rules}
 use Rattle.columns.proofs.reading.fill.Statement.{statement}
 use Rattle.columns.proofs.reading.fill.Tie as tie
 
-abbrev invariant-loop : tie.invariant-loop
+abbrev invariant-loop : tie.invariant-loop-j
 invariant-loop text values₀ j₀ values j = Filling text values₀ values j
 
-abbrev decreases-loop : tie.decreases-loop
+abbrev decreases-loop : tie.decreases-loop-j
 decreases-loop text values₀ j₀ values j = length values₀ - j
 
-loop-holds : tie.Need-loop-init invariant-loop decreases-loop
+loop-holds : tie.Need-loop-j-init invariant-loop decreases-loop
 loop-holds c = filling_none c.before.before.args.text.now c.before.before.args.values.now
 
-mul-column-at : tie.Need-overflow-mul-column-at invariant-loop decreases-loop
-mul-column-at c = omega (arith, c.before.loop.invariant.size)
+mul-column-at : tie.Need-overflow_mul-j invariant-loop decreases-loop
+mul-column-at c = omega (arith, c.before.loop-j.invariant.size)
 
-column-at-requires : tie.Need-column-at-requires invariant-loop decreases-loop
-column-at-requires c κs = omega (arith, c.before.loop.invariant.size)
+column-at-requires : tie.Need-column_at-requires invariant-loop decreases-loop
+column-at-requires c κs = omega (arith, c.before.loop-j.invariant.size)
 
-mul-values : tie.Need-overflow-mul-values invariant-loop decreases-loop
-mul-values c = omega (arith, c.before.before.before.loop.invariant.size)
+mul-values : tie.Need-offset_bounds-values-j invariant-loop decreases-loop
+mul-values c = omega (arith, c.before.before.before.loop-j.invariant.size)
 
-add-j : tie.Need-overflow-add-j invariant-loop decreases-loop
-add-j c = omega (arith, c.before.before.before.loop.invariant.size)
+add-j : tie.Need-overflow_add-j invariant-loop decreases-loop
+add-j c = omega (arith, c.before.before.before.loop-j.invariant.size)
 
-loop-less : tie.Need-loop-smaller invariant-loop decreases-loop
-loop-less c = omega (arith, c.before.before.before.loop.invariant.size)
+loop-less : tie.Need-loop-j-smaller invariant-loop decreases-loop
+loop-less c = omega (arith, c.before.before.before.loop-j.invariant.size)
 
-loop-again : tie.Need-loop-preserved invariant-loop decreases-loop
+loop-again : tie.Need-loop-j-preserved invariant-loop decreases-loop
 loop-again c =
     let at-loop = c.before.before.before in
     let a = at-loop.before.before.before.args in
-    filling_more a.text.now a.values.now at-loop.loop.values at-loop.loop.j at-loop.loop.invariant c.value_of_lem.result
-    (omega (arith, at-loop.loop.invariant.size)) (c.value_of_lem.ensures ∙ ap or_zero c.before.column-at.ensures)
+    filling_more a.text.now a.values.now at-loop.loop-j.values at-loop.loop-j.j at-loop.loop-j.invariant c.value_of_lem.result
+    (omega (arith, at-loop.loop-j.invariant.size)) (c.value_of_lem.ensures ∙ ap or_zero c.before.column_at.ensures)
 
-same_length : tie.Need-same-length invariant-loop decreases-loop
-same_length c = c.before.loop.invariant.size
+same_length : tie.Need-shape_of-values invariant-loop decreases-loop
+same_length c = c.before.loop-j.invariant.size
 
 returns : tie.Need-returns invariant-loop decreases-loop
 returns c =
     let at-loop = c.before in
     let a = at-loop.before.before.before.args in
-    filling_all a.text.now a.values.now at-loop.loop.values at-loop.loop.j at-loop.loop.invariant
-    (omega (arith, at-loop.loop.invariant.size))
+    filling_all a.text.now a.values.now at-loop.loop-j.values at-loop.loop-j.j at-loop.loop-j.invariant
+    (omega (arith, at-loop.loop-j.invariant.size))
 
 pub fill_spec : {M : Type 1} → statement M
 fill_spec = tie.close (tie.spec invariant-loop decreases-loop loop-holds mul-column-at column-at-requires (λ c κs. search rules) mul-values (λ c. search rules)

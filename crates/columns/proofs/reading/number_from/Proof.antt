@@ -5,24 +5,24 @@ use borrow.Author.Rules.{rules}
 use Rattle.columns.proofs.reading.number_from.Statement.{statement}
 use Rattle.columns.proofs.reading.number_from.Tie as tie
 
-returns : tie.Need-returns
-returns c = rw (number-end c.before.before.args.s.now c.before.before.args.at c.if1.true)
+returns : tie.Need-returns-then-s-at
+returns c = rw (number-end c.before.before.args.s.now c.before.before.args.at c.if-s-at.true)
 
-returns-2 : tie.Need-returns-2
+returns-2 : tie.Need-returns-then-s-at-eq-NOUGHT
 returns-2 c =
     let at-start = c.before.before.before.before.before in
-    rw (number-zero at-start.args.s.now at-start.args.at (omega arith) c.if3.true)
+    rw (number-zero at-start.args.s.now at-start.args.at (omega arith) c.if-s-at-eq-NOUGHT.true)
 
-returns-3 : tie.Need-returns-3
+returns-3 : tie.Need-returns-then-s-at-gt1
 returns-3 c =
     let at-start = c.before.before.before.before.before.before in
-    rw (number_more at-start.args.s.now at-start.args.at (omega arith) c.before.if3.false) c.digits_from.ensures
+    rw (number_more at-start.args.s.now at-start.args.at (omega arith) c.before.if-s-at-eq-NOUGHT.false) c.digits_from.ensures
 
-returns-4 : tie.Need-returns-4
+returns-4 : tie.Need-returns
 returns-4 c =
     let at-start = c.before.before.before.before in
-    rw (number_one at-start.args.s.now at-start.args.at (omega arith) (omega arith)) c.digits-from2.ensures
+    rw (number_one at-start.args.s.now at-start.args.at (omega arith) (omega arith)) c.digits_from-2.ensures
 
-pub number-from-spec : {M : Type 1} → statement M
-number-from-spec = tie.close (tie.spec returns (λ c. search rules) (λ c. search rules) returns-2 (λ c κs. search rules) returns-3
+pub number_from_spec : {M : Type 1} → statement M
+number_from_spec = tie.close (tie.spec returns (λ c. search rules) (λ c. search rules) returns-2 (λ c κs. search rules) returns-3
     (λ c κs. search rules) returns-4)

@@ -9,32 +9,32 @@ use borrow.Author.Rules.{rules}
 use Rattle.columns.proofs.reading.skip_spaces.Statement.{statement}
 use Rattle.columns.proofs.reading.skip_spaces.Tie as tie
 
-abbrev invariant-loop : tie.invariant-loop
+abbrev invariant-loop : tie.invariant-loop-i
 invariant-loop s i₀ i = (i ≤ length s) × (column s ≡ column (drop i s))
 
-abbrev decreases-loop : tie.decreases-loop
+abbrev decreases-loop : tie.decreases-loop-i
 decreases-loop s i₀ i = length s - i
 
-loop-holds : tie.Need-loop-init invariant-loop decreases-loop
+loop-holds : tie.Need-loop-i-init invariant-loop decreases-loop
 loop-holds c = (omega arith, refl)
 
-returns : tie.Need-returns invariant-loop decreases-loop
+returns : tie.Need-returns-then-s-i-ne-SPACE invariant-loop decreases-loop
 returns c =
     let s = c.before.before.before.before.args.s.now in
-    let i = c.before.before.before.loop.i in
-    (omega arith, c.before.before.before.loop.invariant.1 ∙ column-number s i (omega arith) c.if1.true)
+    let i = c.before.before.before.loop-i.i in
+    (omega arith, c.before.before.before.loop-i.invariant.1 ∙ column-number s i (omega arith) c.if-s-i-ne-SPACE.true)
 
-loop-again : tie.Need-loop-preserved invariant-loop decreases-loop
+loop-again : tie.Need-loop-i-preserved invariant-loop decreases-loop
 loop-again c =
     let s = c.before.before.before.before.args.s.now in
-    let i = c.before.before.before.loop.i in
-    (omega arith, c.before.before.before.loop.invariant.1 ∙ column_space s i (omega arith) c.if1.false)
+    let i = c.before.before.before.loop-i.i in
+    (omega arith, c.before.before.before.loop-i.invariant.1 ∙ column_space s i (omega arith) c.if-s-i-ne-SPACE.false)
 
-returns-2 : tie.Need-returns-2 invariant-loop decreases-loop
+returns-2 : tie.Need-returns invariant-loop decreases-loop
 returns-2 c =
     let s = c.before.before.args.s.now in
-    (omega arith, c.before.loop.invariant.1 ∙ column-end s c.before.loop.i (omega arith))
+    (omega arith, c.before.loop-i.invariant.1 ∙ column-end s c.before.loop-i.i (omega arith))
 
-pub skip-spaces-spec : {M : Type 1} → statement M
-skip-spaces-spec = tie.close (tie.spec invariant-loop decreases-loop loop-holds (λ c. search rules) returns (λ c. search rules) (λ c. search rules) loop-again
+pub skip_spaces_spec : {M : Type 1} → statement M
+skip_spaces_spec = tie.close (tie.spec invariant-loop decreases-loop loop-holds (λ c. search rules) returns (λ c. search rules) (λ c. search rules) loop-again
     returns-2)

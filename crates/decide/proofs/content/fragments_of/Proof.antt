@@ -14,40 +14,40 @@ use Rattle.decide.proofs.Restoring.{fragments_room, Turn, fragments-room, turn, 
 use Rattle.decide.proofs.content.fragments_of.Statement.{statement}
 use Rattle.decide.proofs.content.fragments_of.Tie as tie
 
-abbrev invariant-loop : tie.invariant-loop
+abbrev invariant-loop : tie.invariant-loop-p
 invariant-loop kept t n servers f k out₀ p₀ out p =
     (p ≤ k) × (length out ≡ fragments_room) × ((q : ℕ) → q < p → bytes_at out (q * f) f ≡ (fragment_of kept f (get_or servers q 0)).bytes)
 
-abbrev decreases-loop : tie.decreases-loop
+abbrev decreases-loop : tie.decreases-loop-p
 decreases-loop kept t n servers f k out₀ p₀ out p = k - p
 
-fragment-size-requires : tie.Need-fragment-size-requires invariant-loop decreases-loop
+fragment-size-requires : tie.Need-fragment_size-f-requires invariant-loop decreases-loop
 fragment-size-requires c κs = let p = c.before.requires in (p.0.low, p.0.high, p.1)
 
-threshold-requires : tie.Need-threshold-requires invariant-loop decreases-loop
+threshold-requires : tie.Need-threshold-k-requires invariant-loop decreases-loop
 threshold-requires c κs = c.before.before.requires.0.high
 
-loop-holds : tie.Need-loop-init invariant-loop decreases-loop
+loop-holds : tie.Need-loop-p-init invariant-loop decreases-loop
 loop-holds c = (omega arith, refl, λ q l. absurd (omega arith))
 
 -- Places far back, each named once: the place, and from where it is seen.
-abbrev start-from-at-loop : tie.At-loop invariant-loop decreases-loop → tie.Start invariant-loop decreases-loop
+abbrev start-from-at-loop : tie.At-loop-p invariant-loop decreases-loop → tie.Start invariant-loop decreases-loop
 start-from-at-loop c = c.before.before.before.before
 
-array-read-at : tie.Need-array-read-at invariant-loop decreases-loop
-array-read-at c = omega (arith, c.before.before.threshold.ensures.1, (start-from-at-loop c.before).pre.0.high)
+array-read-at : tie.Need-bounds-servers-p invariant-loop decreases-loop
+array-read-at c = omega (arith, c.before.before.threshold-k.ensures.1, (start-from-at-loop c.before).pre.0.high)
 
 -- what every number of a turn rests on, at the top of the loop's body
-fine : (c : tie.In-loop invariant-loop decreases-loop)
-    → Turn (start-from-at-loop c.before).args.kept.now (get_or (start-from-at-loop c.before).args.t4 c.before.loop.p 0)
-    c.before.before.before.fragment-size.result c.before.loop.p
+fine : (c : tie.In-loop-p invariant-loop decreases-loop)
+    → Turn (start-from-at-loop c.before).args.kept.now (get_or (start-from-at-loop c.before).args.t4 c.before.loop-p.p 0)
+    c.before.before.before.fragment_size-f.result c.before.loop-p.p
 fine c =
     let at-loop = c.before in
     let at-start = start-from-at-loop at-loop in
     let a = at-start.args in
     let p = at-start.pre in
-    turn a.t a.kept.now a.t4 a.n p.0 p.1 p.2 c.before.before.before.fragment-size.result c.before.loop.p
-    c.before.before.before.fragment-size.ensures (omega (arith, c.before.before.threshold.ensures.0))
+    turn a.t a.kept.now a.t4 a.n p.0 p.1 p.2 c.before.before.before.fragment_size-f.result c.before.loop-p.p
+    c.before.before.before.fragment_size-f.ensures (omega (arith, c.before.before.threshold-k.ensures.0))
 
 copy-requires : tie.Need-copy-requires invariant-loop decreases-loop
 copy-requires c κs =
@@ -55,29 +55,29 @@ copy-requires c κs =
     let at-start = start-from-at-loop at-loop in
     let a = at-start.args in
     let p = at-start.pre in
-    let f = at-loop.before.before.fragment-size in
-    let l : c.before.before.before.loop.p < (shelf a.t).threshold = omega (arith, at-loop.before.threshold.ensures.0) in
-    let at : ℕ = replies_place + reply_slot * (get_or a.t4 c.before.before.before.loop.p 0 - 1) + (stamp_size + 3) in
+    let f = at-loop.before.before.fragment_size-f in
+    let l : c.before.before.before.loop-p.p < (shelf a.t).threshold = omega (arith, at-loop.before.threshold-k.ensures.0) in
+    let at : ℕ = replies_place + reply_slot * (get_or a.t4 c.before.before.before.loop-p.p 0 - 1) + (stamp_size + 3) in
     omega (
       arith,
-      source-length a.t a.kept.now a.t4 a.n p.0 p.1 p.2 f.result c.before.before.before.loop.p at f.ensures l refl,
-      c.before.before.before.loop.invariant.1,
+      source-length a.t a.kept.now a.t4 a.n p.0 p.1 p.2 f.result c.before.before.before.loop-p.p at f.ensures l refl,
+      c.before.before.before.loop-p.invariant.1,
       fine c.before.before,
     )
 
-loop-again : tie.Need-loop-preserved invariant-loop decreases-loop
+loop-again : tie.Need-loop-p-preserved invariant-loop decreases-loop
 loop-again c =
     let at-loop = c.before.before.before.before.before in
     let at-start = start-from-at-loop at-loop in
     let a = at-start.args in
     let p = at-start.pre in
-    let v = at-loop.loop.invariant in
-    let l : at-loop.loop.p < (shelf a.t).threshold = omega (arith, at-loop.before.threshold.ensures.0) in
-    let at : ℕ = replies_place + reply_slot * (get_or a.t4 at-loop.loop.p 0 - 1) + (stamp_size + 3) in
+    let v = at-loop.loop-p.invariant in
+    let l : at-loop.loop-p.p < (shelf a.t).threshold = omega (arith, at-loop.before.threshold-k.ensures.0) in
+    let at : ℕ = replies_place + reply_slot * (get_or a.t4 at-loop.loop-p.p 0 - 1) + (stamp_size + 3) in
     let w =
-    fragments_more a.t a.kept.now a.t4 a.n p.0 p.1 p.2 at-loop.loop.out
-    c.before.copy.new.0 at-loop.before.before.fragment-size.result at-loop.loop.p at
-    at-loop.before.before.fragment-size.ensures l refl v.1 v.2 c.before.copy.ensures in
+    fragments_more a.t a.kept.now a.t4 a.n p.0 p.1 p.2 at-loop.loop-p.out
+    c.before.copy.new.0 at-loop.before.before.fragment_size-f.result at-loop.loop-p.p at
+    at-loop.before.before.fragment_size-f.ensures l refl v.1 v.2 c.before.copy.ensures in
     (omega arith, w.0, w.1)
 
 returns : tie.Need-returns invariant-loop decreases-loop
@@ -85,17 +85,17 @@ returns c =
     let at-loop = c.before in
     let at-start = start-from-at-loop at-loop in
     let a = at-start.args in
-    let e = c.before.before.before.fragment-size.ensures in
+    let e = c.before.before.before.fragment_size-f.ensures in
     let p = at-start.pre in
     record {
-      long = omega (arith, fragments-room a.t a.n p.0.high p.1, c.before.loop.invariant.1);
+      long = omega (arith, fragments-room a.t a.n p.0.high p.1, c.before.loop-p.invariant.1);
       each = λ q l. subst
-          (λ (f : ℕ). bytes_at c.before.loop.out (q * f) f ≡ (fragment_of a.kept.now f (get_or a.t4 q 0)).bytes) e
-          (c.before.loop.invariant.2 q (omega (arith, c.before.before.threshold.ensures.0)));
+          (λ (f : ℕ). bytes_at c.before.loop-p.out (q * f) f ≡ (fragment_of a.kept.now f (get_or a.t4 q 0)).bytes) e
+          (c.before.loop-p.invariant.2 q (omega (arith, c.before.before.threshold-k.ensures.0)));
     }
 
-pub fragments-of-spec : {M : Type 1} → statement M
-fragments-of-spec = tie.close (tie.spec invariant-loop decreases-loop fragment-size-requires threshold-requires loop-holds (λ c. omega (arith, array-read-at c))
+pub fragments_of_spec : {M : Type 1} → statement M
+fragments_of_spec = tie.close (tie.spec invariant-loop decreases-loop fragment-size-requires threshold-requires loop-holds (λ c. omega (arith, array-read-at c))
     array-read-at (λ c. omega (arith, fine c)) (λ c. omega (arith, fine c)) (λ c. omega (arith, fine c)) (λ c. omega (arith, fine c))
     (λ c. search rules) (λ c. omega (arith, fine c.before)) (λ c. omega (arith, fine c.before)) (λ c. omega (arith, fine c.before))
     (λ c. omega (arith, fine c.before)) (λ c. omega (arith, fine c.before)) copy-requires

@@ -15,7 +15,7 @@ use Rattle.decide.proofs.Replies.{size_in_def, lent_slot, lent_length, slot_lent
 use Rattle.decide.proofs.content.rebuild.Statement.{statement}
 use Rattle.decide.proofs.content.rebuild.Tie as tie
 
-size-of-requires : tie.Need-size-of-requires
+size-of-requires : tie.Need-size_of-n-requires
 size-of-requires c κs = let a = c.before.before.before.args in let p = c.before.before.before.requires in lent_length a.kept.now a.b
     p.0.size p.1
 
@@ -23,10 +23,10 @@ size-of-requires c κs = let a = c.before.before.before.args in let p = c.before
 size : (kept : List ℕ) (b n : ℕ) → n ≡ size_in_def (lent_slot kept b) → n ≡ size_in_def (reply_slot_of kept b)
 size kept b n e = e ∙ ap size_in_def (slot_lent kept b)
 
-threshold-requires : tie.Need-threshold-requires
+threshold-requires : tie.Need-threshold-k-requires
 threshold-requires c κs = c.before.before.before.before.requires.0.high
 
-fragment-size-requires : tie.Need-fragment-size-requires
+fragment-size-requires : tie.Need-fragment_size-requires
 fragment-size-requires c κs =
     let at-start = c.before.before.before.before.before in
     let a = at-start.args in
@@ -39,38 +39,38 @@ room : (t n k f : ℕ) → t ≤ top_faults → n ≤ top_length → k ≡ (shel
 room t n k f h m e q = rw (e, q) (fragments-room t n h m)
 
 -- Places far back, each named once: the place, and from where it is seen.
-abbrev start-from-fragment-size : tie.After-fragment-size → tie.Start
+abbrev start-from-fragment-size : tie.After-fragment_size → tie.Start
 start-from-fragment-size c = c.before.before.before.before.before.before
 
-mul-end : tie.Need-overflow-mul-end
+mul-end : tie.Need-overflow_mul-end
 mul-end c =
     let at-start = start-from-fragment-size c in
     let a = at-start.args in
     let p = at-start.pre in
     omega (
       arith,
-      room a.t c.before.before.type_size.result c.before.threshold.result c.fragment-size.result p.0.high
+      room a.t c.before.before.type_size.result c.before.threshold-k.result c.fragment_size.result p.0.high
           (omega (arith, p.2.top, size a.kept.now a.b c.before.before.type_size.result c.before.before.type_size.ensures))
-          c.before.threshold.ensures.0 c.fragment-size.ensures,
+          c.before.threshold-k.ensures.0 c.fragment_size.ensures,
     )
 
-fragments-of-requires : tie.Need-fragments-of-requires
+fragments-of-requires : tie.Need-fragments_of-fragments-requires
 fragments-of-requires c κs =
     let at-start = start-from-fragment-size c in
     let a = at-start.args in
     let p = at-start.pre in
     (p.0, omega (arith, p.2.top, size a.kept.now a.b c.before.before.type_size.result c.before.before.type_size.ensures), p.3)
 
-abbrev start-from-fragments-of : tie.After-fragments-of → tie.Start
+abbrev start-from-fragments-of : tie.After-fragments_of-fragments → tie.Start
 start-from-fragments-of c = c.before.before.before.before.before.before.before
 
-part-restore-end : tie.Need-slice-bounds-restore-end
+part-restore-end : tie.Need-slice_bounds-restore-end
 part-restore-end c =
     let at-fragments-of = c.before in
     let at-start = start-from-fragments-of at-fragments-of in
     omega (
       arith,
-      c.before.before.before.threshold.ensures.1,
+      c.before.before.before.threshold-k.ensures.1,
       at-start.pre.0.high,
       at-start.good.1.1.1.0.1.0.1,
     )
@@ -78,18 +78,18 @@ part-restore-end c =
 products : (k l f g : ℕ) → k ≡ l → f ≡ g → k * f ≡ l * g
 products k l f g e q = rw (e, q)
 
-part-restore-end-2 : tie.Need-slice-bounds-restore-end-2
+part-restore-end-2 : tie.Need-slice_bounds-restore-end-2
 part-restore-end-2 c =
     let at-fragments-of = c.before.before.before in
     let at-start = start-from-fragments-of at-fragments-of in
     omega (
       arith,
-      c.before.before.before.fragments-of.ensures.long,
-      products at-fragments-of.before.before.threshold.result
-          (shelf at-start.args.t).threshold at-fragments-of.before.fragment-size.result (fragment_size_def (shelf
+      c.before.before.before.fragments_of-fragments.ensures.long,
+      products at-fragments-of.before.before.threshold-k.result
+          (shelf at-start.args.t).threshold at-fragments-of.before.fragment_size.result (fragment_size_def (shelf
           at-start.args.t).threshold
-          at-fragments-of.before.before.before.type_size.result) at-fragments-of.before.before.threshold.ensures.0
-          at-fragments-of.before.fragment-size.ensures,
+          at-fragments-of.before.before.before.type_size.result) at-fragments-of.before.before.threshold-k.ensures.0
+          at-fragments-of.before.fragment_size.ensures,
     )
 
 -- what is lent to restoring
@@ -100,7 +100,7 @@ lent t n k l f g servers frs out e q =
     let y : k * f - 0 ≡ l * g = rw (e, q) (omega arith) in
     rw (x, y)
 
-abbrev fragments-of-from-restore : tie.After-restore → tie.After-fragments-of
+abbrev fragments-of-from-restore : tie.After-restore-r → tie.After-fragments_of-fragments
 fragments-of-from-restore c = c.before.before.before.before.before.before
 
 returns : tie.Need-returns
@@ -116,15 +116,15 @@ returns c =
     let f = at-fragments-of.before.fragment-size.ensures in
     rebuilt a.t a.kept.now a.t4 at-fragments-of.before.before.before.type_size.result
     p.0 (omega (arith, p.2.top, n)) p.3 a.b at-fragments-of.fragments-of.result
-    a.out.now at_restore.restore.new.1.1.1.1.0
-    at_restore.restore.result n at-start.good.1.1.1.0.1.0.1 at-fragments-of.fragments-of.ensures p.4 (at_restore.restore.ensures
+    a.out.now at_restore.restore-r.new.1.1.1.1.0
+    at_restore.restore-r.result n at-start.good.1.1.1.0.1.0.1 at-fragments-of.fragments-of.ensures p.4 (at_restore.restore-r.ensures
     ∙ lent a.t at-fragments-of.before.before.before.type_size.result
     at-fragments-of.before.before.threshold.result (shelf a.t).threshold at-fragments-of.before.fragment-size.result
     (fragment_size_def (shelf a.t).threshold at-fragments-of.before.before.before.type_size.result)
     a.t4 at-fragments-of.fragments-of.result a.out.now k f)
 
-pub rebuild-spec : {M : Type 1} → statement M
-rebuild-spec = tie.close (tie.spec (λ c. omega (arith, c.before.before.requires.0.size)) (λ c. omega (arith, c.before.before.requires.0.size))
+pub rebuild_spec : {M : Type 1} → statement M
+rebuild_spec = tie.close (tie.spec (λ c. omega (arith, c.before.before.requires.0.size)) (λ c. omega (arith, c.before.before.requires.0.size))
     (λ c. omega (arith, c.before.before.requires.0.size)) (λ c. omega (arith, c.before.before.requires.0.size))
     (λ c. omega (arith, c.before.before.requires.0.size)) (λ c. omega (arith, c.before.before.requires.0.size)) size-of-requires threshold-requires
     fragment-size-requires mul-end fragments-of-requires (λ c. omega arith) (λ c. omega arith) part-restore-end (λ c. omega arith) (λ c. omega arith)

@@ -10,42 +10,42 @@ use Rattle.decide.proofs.Firsts.{chosen_none, chosen-passed, chosen_here}
 use Rattle.decide.proofs.leading.find.Statement.{statement}
 use Rattle.decide.proofs.leading.find.Tie as tie
 
-abbrev invariant-loop : tie.invariant-loop
+abbrev invariant-loop : tie.invariant-loop-i
 invariant-loop kept replied key s i₀ i = (i ≤ s) × (first_proven replied.t replied.marks kept key i ≡ none)
 
-abbrev decreases-loop : tie.decreases-loop
+abbrev decreases-loop : tie.decreases-loop-i
 decreases-loop kept replied key s i₀ i = s - i
 
-servers-requires : tie.Need-servers-requires invariant-loop decreases-loop
+servers-requires : tie.Need-servers-s-requires invariant-loop decreases-loop
 servers-requires c κs = c.before.requires.high
 
-loop-holds : tie.Need-loop-init invariant-loop decreases-loop
+loop-holds : tie.Need-loop-i-init invariant-loop decreases-loop
 loop-holds c = let a = c.before.before.args in (omega arith, chosen_none a.replied.t a.replied.marks a.kept.now a.key)
 
-tried-requires : tie.Need-tried-requires invariant-loop decreases-loop
+tried-requires : tie.Need-tried-g-requires invariant-loop decreases-loop
 tried-requires c κs =
     let at-loop = c.before in (
       at-loop.before.before.before.requires,
       omega (
         arith,
-        c.before.before.servers.ensures.1,
+        c.before.before.servers-s.ensures.1,
         at-loop.before.before.before.requires.high,
       ),
     )
 
-returns : tie.Need-returns invariant-loop decreases-loop
+returns : tie.Need-returns-then-g-ne0 invariant-loop decreases-loop
 returns c =
     let at-loop = c.before.before.before.before.before in
     let a = at-loop.before.before.before.args in
-    chosen_here a.replied.t a.replied.marks a.kept.now a.key at-loop.loop.i
-    c.before.before.before.tried.result (omega (arith, at-loop.before.servers.ensures.0))
-    at-loop.loop.invariant.1 c.before.before.before.tried.ensures c.before.if1.true
+    chosen_here a.replied.t a.replied.marks a.kept.now a.key at-loop.loop-i.i
+    c.before.before.before.tried-g.result (omega (arith, at-loop.before.servers-s.ensures.0))
+    at-loop.loop-i.invariant.1 c.before.before.before.tried-g.ensures c.before.if-g-ne0.true
 
 -- Places far back, each named once: the place, and from where it is seen.
-abbrev at-loop-from-else1 : tie.Else1 invariant-loop decreases-loop → tie.At-loop invariant-loop decreases-loop
+abbrev at-loop-from-else1 : tie.Else-g-ne0 invariant-loop decreases-loop → tie.At-loop-i invariant-loop decreases-loop
 at-loop-from-else1 c = c.before.before.before.before
 
-add-i : tie.Need-overflow-add-i invariant-loop decreases-loop
+add-i : tie.Need-overflow_add-i invariant-loop decreases-loop
 add-i c =
     let at-loop = at-loop-from-else1 c in
     omega (
@@ -54,21 +54,21 @@ add-i c =
       at-loop.before.before.before.pre.high,
     )
 
-loop-again : tie.Need-loop-preserved invariant-loop decreases-loop
+loop-again : tie.Need-loop-i-preserved invariant-loop decreases-loop
 loop-again c =
     let at-loop = at-loop-from-else1 c in
     let a = at-loop.before.before.before.args in (
       omega arith,
       chosen-passed a.replied.t a.replied.marks a.kept.now a.key at-loop.loop.i
-          c.before.before.tried.result at-loop.loop.inv.1 c.before.before.tried.ensures c.if1.false,
+          c.before.before.tried-g.result at-loop.loop.inv.1 c.before.before.tried-g.ensures c.if-g-ne0.false,
     )
 
-returns-2 : tie.Need-returns-2 invariant-loop decreases-loop
+returns-2 : tie.Need-returns invariant-loop decreases-loop
 returns-2 c =
     let a = c.before.before.before.before.args in
-    let e : c.before.loop.i ≡ (shelf a.replied.t).servers = omega (arith, c.before.before.servers.ensures.0) in
+    let e : c.before.loop-i.i ≡ (shelf a.replied.t).servers = omega (arith, c.before.before.servers-s.ensures.0) in
     record {
-      nothing = λ z. sym (ap (first_proven a.replied.t a.replied.marks a.kept.now a.key) e) ∙ c.before.loop.invariant.1;
+      nothing = λ z. sym (ap (first_proven a.replied.t a.replied.marks a.kept.now a.key) e) ∙ c.before.loop-i.invariant.1;
       hit = λ b z. absurd
           (omega (arith, z));
     }

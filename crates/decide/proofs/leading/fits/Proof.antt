@@ -13,17 +13,17 @@ use Rattle.cluster.specs.Ranges.{most_servers}
 use Rattle.decide.proofs.leading.fits.Statement.{statement}
 use Rattle.decide.proofs.leading.fits.Tie as tie
 
-element-copy-out-if1 : tie.Need-element-copy-out-if1
+element-copy-out-if1 : tie.Need-bounds-replied-j
 element-copy-out-if1 c = let p = c.before.before.before.requires in omega (arith, p.2, few p.0)
 
-returns : tie.Need-returns
+returns : tie.Need-returns-then-replied-j-eq0
 returns c =
     let a = c.before.before.before.before.before.args in
     let q = a.sought in
     let who = q.replied in
-    sym (fits_unmarked who.t who.marks a.kept.now q.slot a.j c.if1.true)
+    sym (fits_unmarked who.t who.marks a.kept.now q.slot a.j c.if-replied-j-eq0.true)
 
-names-at-requires : tie.Need-names-at-requires
+names-at-requires : tie.Need-names_at-requires
 names-at-requires c κs = let p = c.before.before.before.before.before.requires in (
   p.0,
   p.1,
@@ -32,10 +32,10 @@ names-at-requires c κs = let p = c.before.before.before.before.before.requires 
 )
 
 -- Places far back, each named once: the place, and from where it is seen.
-abbrev start-from-names-at : tie.After-names-at → tie.Start
+abbrev start-from-names-at : tie.After-names_at → tie.Start
 start-from-names-at c = c.before.before.before.before.before.before
 
-returns-2 : tie.Need-returns-2
+returns-2 : tie.Need-returns-then-not-names_at
 returns-2 c =
     let at-start = start-from-names-at c.before in
     let a = at-start.args in
@@ -44,10 +44,10 @@ returns-2 c =
     let p = at-start.pre in
     let l : a.j < most_servers = omega (arith, p.2, few p.0) in
     sym (fits-marked who.t who.marks a.kept.now q.slot a.d.now p.3 a.j l (is-marked who.marks a.j
-    c.before.before.if1.false)
-    ∙ rw (sym c.before.names_at.ensures ∙ not-true c.before.names_at.result c.if2.true))
+    c.before.before.if-replied-j-eq0.false)
+    ∙ rw (sym c.before.names_at.ensures ∙ not-true c.before.names_at.result c.if-not-names_at.true))
 
-intact-at-requires : tie.Need-intact-at-requires
+intact-at-requires : tie.Need-intact_at-requires
 unfolding slot_held
 intact-at-requires c κs =
     let at-start = start-from-names-at c.before in
@@ -58,10 +58,10 @@ intact-at-requires c κs =
       p.0,
       p.2,
       names_full (shelf who.t) (reply_slot_of a.kept.now a.j) (candidates_in (shelf who.t) a.kept.now (suc q.slot)) a.d.now
-          (sym c.before.names_at.ensures ∙ not-false c.before.names_at.result c.if2.false),
+          (sym c.before.names_at.ensures ∙ not-false c.before.names_at.result c.if-not-names_at.false),
     )
 
-returns-3 : tie.Need-returns-3
+returns-3 : tie.Need-returns
 returns-3 c =
     let at-start = start-from-names-at c.before.before in
     let a = at-start.args in
@@ -69,10 +69,10 @@ returns-3 c =
     let who = q.replied in
     let p = at-start.pre in
     let l : a.j < most_servers = omega (arith, p.2, few p.0) in
-    c.intact-at.ensures
+    c.intact_at.ensures
     ∙ sym (fits-marked who.t who.marks a.kept.now q.slot a.d.now p.3 a.j l
-    (is-marked who.marks a.j c.before.before.before.if1.false)
-    ∙ rw (sym c.before.before.names_at.ensures ∙ not-false c.before.before.names_at.result c.before.if2.false))
+    (is-marked who.marks a.j c.before.before.before.if-replied-j-eq0.false)
+    ∙ rw (sym c.before.before.names_at.ensures ∙ not-false c.before.before.names_at.result c.before.if-not-names_at.false))
 
-pub fits-spec : {M : Type 1} → statement M
-fits-spec = tie.close (tie.spec element-copy-out-if1 returns names-at-requires returns-2 intact-at-requires returns-3)
+pub fits_spec : {M : Type 1} → statement M
+fits_spec = tie.close (tie.spec element-copy-out-if1 returns names-at-requires returns-2 intact-at-requires returns-3)

@@ -18,69 +18,69 @@ use Rattle.decide.proofs.leading.group_of.Tie as tie
 fits-requires : tie.Need-fits-requires
 fits-requires c κs = let p = c.before.before.requires in (p.0, p.1, p.2, p.3)
 
-returns : tie.Need-returns
+returns : tie.Need-returns-then-not-fits
 returns c =
     let a = c.before.before.before.before.before.args in
     let q = a.sought in
     let who = q.replied in
-    nobody-leads who.t who.marks a.kept.now q.slot a.b _ c.no-group.ensures
+    nobody-leads who.t who.marks a.kept.now q.slot a.b _ c.no_group.ensures
     (leads_unfit who.t who.marks a.kept.now q.slot a.b (sym c.before.before.fits2.ensures ∙ not-true
     c.before.before.fits2.result
-    c.before.if1.true))
+    c.before.if-not-fits.true))
 
-members-of-requires : tie.Need-members-of-requires
+members-of-requires : tie.Need-members_of-m-requires
 members-of-requires c κs = let p = c.before.before.before.before.requires in (
   p.0,
   p.1,
   p.2,
   p.3,
   sym c.before.fits2.ensures ∙ not-false
-      c.before.fits2.result c.if1.false,
+      c.before.fits2.result c.if-not-fits.false,
 )
 
 -- Places far back, each named once: the place, and from where it is seen.
-abbrev start-from-members-of : tie.After-members-of → tie.Start
+abbrev start-from-members-of : tie.After-members_of-m → tie.Start
 start-from-members-of c = c.before.before.before.before.before
 
 threshold-requires : tie.Need-threshold-requires
 threshold-requires c κs = (start-from-members-of c).requires.0.high
 
-returns-2 : tie.Need-returns-2
+returns-2 : tie.Need-returns-then-m-threshold
 returns-2 c =
     let at-members-of = c.before.before.before.before in
     let a = (start-from-members-of at-members-of).args in
     let q = a.sought in
     let who = q.replied in
-    nobody-leads who.t who.marks a.kept.now q.slot a.b _ c.no-group2.ensures
+    nobody-leads who.t who.marks a.kept.now q.slot a.b _ c.no_group-then-m-threshold.ensures
     (leads-few who.t who.marks a.kept.now q.slot a.b (sym at-members-of.before.before.fits2.ensures ∙ not-false
-    at-members-of.before.before.fits2.result at-members-of.before.if1.false) (omega (
+    at-members-of.before.before.fits2.result at-members-of.before.if-not-fits.false) (omega (
       arith,
-      c.before.if2.true,
-      at-members-of.members-of.ensures.count,
+      c.before.if-m-threshold.true,
+      at-members-of.members_of-m.ensures.count,
       c.before.before.before.threshold.ensures.0,
     )))
 
 -- the slot is one of few
-slot-low : (c : tie.After-members-of) → (start-from-members-of c).args.b < most_servers
+slot-low : (c : tie.After-members_of-m) → (start-from-members-of c).args.b < most_servers
 slot-low c = let p = (start-from-members-of c).requires in omega (arith, p.2, few p.0)
 
-returns-3 : tie.Need-returns-3
+returns-3 : tie.Need-returns
 returns-3 c =
     let at-members-of = c.before.before.before.before in
     let a = (start-from-members-of at-members-of).args in
     let q = a.sought in
     let who = q.replied in
-    let m = at-members-of.members-of.ensures in
+    let m = at-members-of.members_of-m.ensures in
     let l : (shelf who.t).threshold ≤ length (members_at who.t who.marks a.kept.now q.slot a.b) = omega
-    (arith, c.before.if2.false, m.count, c.before.before.before.threshold.ensures.0) in
-    let k : (shelf who.t).threshold ≡ at-members-of.members-of.result.count = omega
+    (arith, c.before.if-m-threshold.false, m.count, c.before.before.before.threshold.ensures.0) in
+    let k : (shelf who.t).threshold ≡ at-members-of.members_of-m.result.count = omega
     (arith, l, m.count, members-most who.t who.marks a.kept.now q.slot a.b) in
     slot-leads who.t who.marks a.kept.now q.slot a.b _ (add-one a.b)
     (leads_enough who.t who.marks a.kept.now q.slot a.b (sym at-members-of.before.before.fits2.ensures ∙ not-false
-    at-members-of.before.before.fits2.result at-members-of.before.if1.false) l)
-    (ap (λ (x : ℕ). take x at-members-of.members-of.result.servers) k ∙ m.these)
+    at-members-of.before.before.fits2.result at-members-of.before.if-not-fits.false) l)
+    (ap (λ (x : ℕ). take x at-members-of.members_of-m.result.servers) k ∙ m.these)
 
-pub group-of-spec : {M : Type 1} → statement M
-group-of-spec = tie.close (tie.spec fits-requires (λ c κs. search rules) returns members-of-requires threshold-requires (λ c κs. search rules)
+pub group_of_spec : {M : Type 1} → statement M
+group_of_spec = tie.close (tie.spec fits-requires (λ c κs. search rules) returns members-of-requires threshold-requires (λ c κs. search rules)
     returns-2
     (λ c. omega (arith, slot-low c.before.before.before.before)) returns-3)

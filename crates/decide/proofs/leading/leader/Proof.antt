@@ -15,16 +15,16 @@ use Rattle.decide.proofs.Places.{part_of, nonce_in}
 use Rattle.decide.proofs.leading.leader.Statement.{statement}
 use Rattle.decide.proofs.leading.leader.Tie as tie
 
-abbrev invariant-loop : tie.invariant-loop
+abbrev invariant-loop : tie.invariant-loop-b
 invariant-loop kept sought at d s b₀ b = (b ≤ s) × (leader_at sought.replied.t sought.replied.marks kept sought.slot b ≡ 0)
 
-abbrev decreases-loop : tie.decreases-loop
+abbrev decreases-loop : tie.decreases-loop-b
 decreases-loop kept sought at d s b₀ b = s - b
 
-servers-requires : tie.Need-servers-requires invariant-loop decreases-loop
+servers-requires : tie.Need-servers-s-requires invariant-loop decreases-loop
 servers-requires c κs = c.before.before.before.before.requires.0.high
 
-loop-holds : tie.Need-loop-init invariant-loop decreases-loop
+loop-holds : tie.Need-loop-b-init invariant-loop decreases-loop
 loop-holds c =
     let a = c.before.before.before.before.before.args in
     let q = a.sought in
@@ -32,10 +32,10 @@ loop-holds c =
     (omega arith, leader_none who.t who.marks a.kept.now q.slot)
 
 -- Places far back, each named once: the place, and from where it is seen.
-abbrev start-from-at-loop : tie.At-loop invariant-loop decreases-loop → tie.Start invariant-loop decreases-loop
+abbrev start-from-at-loop : tie.At-loop-b invariant-loop decreases-loop → tie.Start invariant-loop decreases-loop
 start-from-at-loop c = c.before.before.before.before.before.before
 
-group-of-requires : tie.Need-group-of-requires invariant-loop decreases-loop
+group-of-requires : tie.Need-group_of-g-requires invariant-loop decreases-loop
 group-of-requires c κs =
     let at-loop = c.before.before in
     let at-start = start-from-at-loop at-loop in
@@ -45,28 +45,28 @@ group-of-requires c κs =
     let p = at-start.pre in (
       p.0,
       p.1,
-      omega (arith, c.before.before.before.servers.ensures.0),
-      at-loop.before.before.digest.ensures ∙ ap sha256
+      omega (arith, c.before.before.before.servers-s.ensures.0),
+      at-loop.before.before.digest-d.ensures ∙ ap sha256
           (part_of a.kept.now (candidates_place + candidate_slot * q.slot + stamp_size) digest_size ∙ sym
           (nonce_in (shelf who.t) a.kept.now q.slot p.1)),
     )
 
-returns : tie.Need-returns invariant-loop decreases-loop
+returns : tie.Need-returns-then-g-ne0 invariant-loop decreases-loop
 returns c =
     let at-loop = c.before.before.before.before.before in
     let a = (start-from-at-loop at-loop).args in
     let q = a.sought in
     let who = q.replied in
-    let j = at-loop.loop.b in
-    let v = at-loop.loop.invariant in
+    let j = at-loop.loop-b.b in
+    let v = at-loop.loop-b.invariant in
     let g = c.before.before.Group-of.ensures in
-    first-leads who.t who.marks a.kept.now q.slot at-loop.loop.b c.before.before.Group-of.result
-    (omega (arith, at-loop.before.servers.ensures.0)) v.1 g c.if1.true
+    first-leads who.t who.marks a.kept.now q.slot at-loop.loop-b.b c.before.before.Group-of.result
+    (omega (arith, at-loop.before.servers-s.ensures.0)) v.1 g c.if-g-ne0.true
 
-abbrev at-loop-from-else1 : tie.Else1 invariant-loop decreases-loop → tie.At-loop invariant-loop decreases-loop
+abbrev at-loop-from-else1 : tie.Else-g-ne0 invariant-loop decreases-loop → tie.At-loop-b invariant-loop decreases-loop
 at-loop-from-else1 c = c.before.before.before.before.before
 
-add-b : tie.Need-overflow-add-b invariant-loop decreases-loop
+add-b : tie.Need-overflow_add-b invariant-loop decreases-loop
 add-b c =
     let at-loop = at-loop-from-else1 c in
     omega (
@@ -75,7 +75,7 @@ add-b c =
       (start-from-at-loop at-loop).pre.0.high,
     )
 
-loop-again : tie.Need-loop-preserved invariant-loop decreases-loop
+loop-again : tie.Need-loop-b-preserved invariant-loop decreases-loop
 loop-again c =
     let at-loop = at-loop-from-else1 c in
     let a = (start-from-at-loop at-loop).args in
@@ -83,21 +83,21 @@ loop-again c =
     let who = q.replied in
     let g = c.before.before.Group-of.ensures in (
       omega arith,
-      leader_more who.t who.marks a.kept.now q.slot at-loop.loop.b at-loop.loop.inv.1 ∙ sym g.server ∙ c.if1.false,
+      leader_more who.t who.marks a.kept.now q.slot at-loop.loop.b at-loop.loop.inv.1 ∙ sym g.server ∙ c.if-g-ne0.false,
     )
 
-returns-2 : tie.Need-returns-2 invariant-loop decreases-loop
+returns-2 : tie.Need-returns invariant-loop decreases-loop
 returns-2 c =
     let a = (start-from-at-loop c.before.before).args in
     let q = a.sought in
     let who = q.replied in
-    let e : c.before.before.loop.b ≡ (shelf who.t).servers = omega (arith, c.before.before.before.servers.ensures.0) in
+    let e : c.before.before.loop-b.b ≡ (shelf who.t).servers = omega (arith, c.before.before.before.servers-s.ensures.0) in
     no_group_lem who.t who.marks a.kept.now q.slot (leader_at who.t who.marks a.kept.now q.slot (shelf who.t).servers) _
-    c.no-group.ensures
-    (sym (ap (leader_at who.t who.marks a.kept.now q.slot) e) ∙ c.before.before.loop.invariant.1)
+    c.no_group.ensures
+    (sym (ap (leader_at who.t who.marks a.kept.now q.slot) e) ∙ c.before.before.loop-b.invariant.1)
 
-pub leader-spec : {M : Type 1} → statement M
-leader-spec = tie.close (tie.spec invariant-loop decreases-loop (λ c. omega (arith, c.before.before.requires.0.size)) (λ c. omega
+pub leader_spec : {M : Type 1} → statement M
+leader_spec = tie.close (tie.spec invariant-loop decreases-loop (λ c. omega (arith, c.before.before.requires.0.size)) (λ c. omega
     (arith, c.before.before.requires.0.size))
     (λ c. omega (arith, c.before.before.requires.0.size)) (λ c. omega (arith, c.before.before.requires.0.size)) (λ c. omega
     (arith, c.before.before.requires.0.size))

@@ -15,13 +15,13 @@ use Rattle.decide.proofs.Counted.{bit_le, servers_first, servers_step}
 use Rattle.decide.proofs.leading.members_of.Statement.{statement}
 use Rattle.decide.proofs.leading.members_of.Tie as tie
 
-abbrev invariant-loop : tie.invariant-loop
+abbrev invariant-loop : tie.invariant-loop-j
 invariant-loop kept sought d b s k out₀ n₀ j₀ out n j =
     (j ≤ s) × (n ≤ k) × (length out ≡ 13) × (n ≡ length (servers_of_def j (agrees_at_def sought.replied.t sought.replied.marks kept
     sought.slot b))) ×
     (take n out ≡ servers_of_def j (agrees_at_def sought.replied.t sought.replied.marks kept sought.slot b))
 
-abbrev decreases-loop : tie.decreases-loop
+abbrev decreases-loop : tie.decreases-loop-j
 decreases-loop kept sought d b s k out₀ n₀ j₀ out n j = s - j
 
 -- as many as are needed, and all of them
@@ -48,62 +48,62 @@ every t marks kept i b r j h k e f =
     take_all (shelf t).threshold (servers_of_def (shelf t).servers (agrees_at_def t marks kept i b)) (omega (arith, ap length w, e, k)) in
     record { count = e ∙ ap length w ∙ sym (ap length m); these = f ∙ w ∙ sym m }
 
-servers-requires : tie.Need-servers-requires invariant-loop decreases-loop
+servers-requires : tie.Need-servers-s-requires invariant-loop decreases-loop
 servers-requires c κs = c.before.before.requires.0.high
 
-threshold-requires : tie.Need-threshold-requires invariant-loop decreases-loop
+threshold-requires : tie.Need-threshold-k-requires invariant-loop decreases-loop
 threshold-requires c κs = c.before.before.before.requires.0.high
 
-loop-holds : tie.Need-loop-init invariant-loop decreases-loop
+loop-holds : tie.Need-loop-j-init invariant-loop decreases-loop
 unfolding servers_of_def
 loop-holds c = (omega arith, omega arith, refl, refl, refl)
 
 -- Places far back, each named once: the place, and from where it is seen.
-abbrev start-from-threshold : tie.After-threshold invariant-loop decreases-loop → tie.Start invariant-loop decreases-loop
+abbrev start-from-threshold : tie.After-threshold-k invariant-loop decreases-loop → tie.Start invariant-loop decreases-loop
 start-from-threshold c = c.before.before.before.before
 
-returns : tie.Need-returns invariant-loop decreases-loop
+returns : tie.Need-returns-then-n-k invariant-loop decreases-loop
 returns c =
     let at-threshold = c.before.before.before in
     let a = (start-from-threshold at-threshold).args in
     let q = a.sought in
     let who = q.replied in
-    let v = c.before.before.loop.invariant in
+    let v = c.before.before.loop-j.invariant in
     enough who.t who.marks a.kept.now q.slot a.b (record {
-      count = c.before.before.loop.n;
-      servers = c.before.before.loop.out;
+      count = c.before.before.loop-j.n;
+      servers = c.before.before.loop-j.out;
     })
-    c.before.before.loop.j (omega (arith, at-threshold.before.servers.ensures.0)) (omega (
+    c.before.before.loop-j.j (omega (arith, at-threshold.before.servers-s.ensures.0)) (omega (
       arith,
-      c.before.before.before.threshold.ensures.0,
-      c.if1.true,
+      c.before.before.before.threshold-k.ensures.0,
+      c.if-n-k.true,
     )) v.3 v.4
 
-array-write-out : tie.Need-array-write-out invariant-loop decreases-loop
-array-write-out c = let v = c.before.before.loop.invariant in omega (
+array-write-out : tie.Need-bounds-out-n invariant-loop decreases-loop
+array-write-out c = let v = c.before.before.loop-j.invariant in omega (
   arith,
   v.1,
   v.2,
-  c.before.before.before.threshold.ensures.1,
+  c.before.before.before.threshold-k.ensures.1,
   (start-from-threshold c.before.before.before).pre.0.high,
 )
 
-agrees-requires : tie.Need-agrees-requires invariant-loop decreases-loop
+agrees-requires : tie.Need-agrees-n-requires invariant-loop decreases-loop
 agrees-requires c κs =
     let at-threshold = c.before.before.before in
     let p = (start-from-threshold at-threshold).requires in (
       p.0,
       p.1,
       p.2,
-      omega (arith, at-threshold.before.servers.ensures.0),
+      omega (arith, at-threshold.before.servers-s.ensures.0),
       p.3,
       p.4,
     )
 
-abbrev threshold-from-agrees : tie.After-agrees invariant-loop decreases-loop → tie.After-threshold invariant-loop decreases-loop
+abbrev threshold-from-agrees : tie.After-agrees-n invariant-loop decreases-loop → tie.After-threshold-k invariant-loop decreases-loop
 threshold-from-agrees c = c.before.before.before.before
 
-add-n : tie.Need-overflow-add-n invariant-loop decreases-loop
+add-n : tie.Need-overflow_add-n invariant-loop decreases-loop
 add-n c =
     let at-threshold = threshold-from-agrees c in
     let at-start = start-from-threshold at-threshold in
@@ -112,15 +112,15 @@ add-n c =
     let who = q.replied in
     omega (
       arith,
-      c.before.before.before.loop.invariant.1,
-      c.agrees.ensures,
+      c.before.before.before.loop-j.invariant.1,
+      c.agrees-n.ensures,
       bit_le
-          (agrees_at_def who.t who.marks a.kept.now q.slot a.b (suc c.before.before.before.loop.j)),
+          (agrees_at_def who.t who.marks a.kept.now q.slot a.b (suc c.before.before.before.loop-j.j)),
       at-threshold.threshold.ensures.1,
       at-start.pre.0.high,
     )
 
-add-j : tie.Need-overflow-add-j invariant-loop decreases-loop
+add-j : tie.Need-overflow_add-j invariant-loop decreases-loop
 add-j c =
     let at-threshold = threshold-from-agrees c in
     omega (
@@ -129,35 +129,35 @@ add-j c =
       (start-from-threshold at-threshold).pre.0.high,
     )
 
-loop-again : tie.Need-loop-preserved invariant-loop decreases-loop
+loop-again : tie.Need-loop-j-preserved invariant-loop decreases-loop
 loop-again c =
     let at-threshold = threshold-from-agrees c in
     let at-start = start-from-threshold at-threshold in
     let a = at-start.args in
     let q = a.sought in
     let who = q.replied in
-    let v = c.before.before.before.loop.invariant in
+    let v = c.before.before.before.loop-j.invariant in
     let p = agrees_at_def who.t who.marks a.kept.now q.slot a.b in
     let k = at-threshold.threshold.ensures.1 in
-    let w = servers_step p c.before.before.before.loop.j c.before.before.before.loop.n c.before.before.before.loop.out v.3
+    let w = servers_step p c.before.before.before.loop-j.j c.before.before.before.loop-j.n c.before.before.before.loop-j.out v.3
     v.4 (omega (arith, v.1, v.2, k, at-start.pre.0.high)) in (
       omega arith,
-      omega (arith, v.1, c.before.if1.false, c.agrees.ensures, bit_le (p (suc c.before.before.before.loop.j))),
-      length-set c.before.before.before.loop.out c.before.before.before.loop.n (c.before.before.before.loop.j + 1) ∙ v.2,
-      rw c.agrees.ensures w.0,
-      rw c.agrees.ensures w.1,
+      omega (arith, v.1, c.before.if-n-k.false, c.agrees-n.ensures, bit_le (p (suc c.before.before.before.loop-j.j))),
+      length-set c.before.before.before.loop-j.out c.before.before.before.loop-j.n (c.before.before.before.loop-j.j + 1) ∙ v.2,
+      rw c.agrees-n.ensures w.0,
+      rw c.agrees-n.ensures w.1,
     )
 
-returns-2 : tie.Need-returns-2 invariant-loop decreases-loop
+returns-2 : tie.Need-returns invariant-loop decreases-loop
 returns-2 c =
     let a = (start-from-threshold c.before.before).args in
     let q = a.sought in
     let who = q.replied in
-    let v = c.before.loop.invariant in
-    every who.t who.marks a.kept.now q.slot a.b (record { count = c.before.loop.n; servers = c.before.loop.out })
-    c.before.loop.j
-    (omega (arith, c.before.before.before.servers.ensures.0)) (omega (arith, v.1, c.before.before.threshold.ensures.0)) v.3 v.4
+    let v = c.before.loop-j.invariant in
+    every who.t who.marks a.kept.now q.slot a.b (record { count = c.before.loop-j.n; servers = c.before.loop-j.out })
+    c.before.loop-j.j
+    (omega (arith, c.before.before.before.servers-s.ensures.0)) (omega (arith, v.1, c.before.before.threshold-k.ensures.0)) v.3 v.4
 
-pub members-of-spec : {M : Type 1} → statement M
-members-of-spec = tie.close (tie.spec invariant-loop decreases-loop servers-requires threshold-requires loop-holds returns (λ c. search rules) (λ c. search rules)
+pub members_of_spec : {M : Type 1} → statement M
+members_of_spec = tie.close (tie.spec invariant-loop decreases-loop servers-requires threshold-requires loop-holds returns (λ c. search rules) (λ c. search rules)
     array-write-out agrees-requires add-n add-j (λ c. omega arith) loop-again returns-2)

@@ -19,11 +19,11 @@ use Rattle.decide.proofs.Gathered.{enters-blank, enters_twin, enters_new}
 use Rattle.decide.proofs.list.entry.Statement.{statement}
 use Rattle.decide.proofs.list.entry.Tie as tie
 
-abbrev invariant-loop : tie.invariant-loop
+abbrev invariant-loop : tie.invariant-loop-j
 invariant-loop kept t i j₀ j =
     (j ≤ i) × ((k : ℕ) → k < j → same_candidate (candidates_in (shelf t) kept (suc i)) (candidates_in (shelf t) kept (suc k)) ≡ false)
 
-abbrev decreases-loop : tie.decreases-loop
+abbrev decreases-loop : tie.decreases-loop-j
 decreases-loop kept t i j₀ j = i - j
 
 -- the candidate's stamp, by what was read
@@ -40,46 +40,46 @@ one_more p j h e k l = go (eqb k j) refl
     go true q = ap p (eqb-true k j q) ∙ e
     go false q = let d = eqb-false k j q in h k (omega arith)
 
-returns : tie.Need-returns invariant-loop decreases-loop
+returns : tie.Need-returns-then-rank_at-le-BLANK_RANK invariant-loop decreases-loop
 returns c =
     let a = c.before.before.before.args in
     let p = c.before.before.before.requires in
     rw (enters-blank (candidates_in (shelf a.t) a.kept.now) a.i
     (low-rank (candidates_in (shelf a.t) a.kept.now (suc a.i)).stamp
-    (omega (arith, candidate-rank (shelf a.t) a.kept.now a.i p.1, c.before.rank-at.ensures))))
+    (omega (arith, candidate-rank (shelf a.t) a.kept.now a.i p.1, c.before.rank_at.ensures))))
 
-loop-holds : tie.Need-loop-init invariant-loop decreases-loop
+loop-holds : tie.Need-loop-j-init invariant-loop decreases-loop
 loop-holds c = (search rules, λ k l. absurd (omega arith))
 
-returns-2 : tie.Need-returns-2 invariant-loop decreases-loop
+returns-2 : tie.Need-returns-then-twins invariant-loop decreases-loop
 returns-2 c =
     let z = c.before.before.before.before.before in
     let a = z.before.before.args in
     let p = z.before.before.requires in
-    rw (enters_twin (candidates_in (shelf a.t) a.kept.now) a.i c.before.before.before.loop.j
-    (stamp a.t a.kept.now a.i z.rank-at.result (λ k. (z.before.shared-slice-known.given k).fits) p.1 z.rank-at.ensures
+    rw (enters_twin (candidates_in (shelf a.t) a.kept.now) a.i c.before.before.before.loop-j.j
+    (stamp a.t a.kept.now a.i z.rank_at.result (λ k. (z.before.shared_slice_known-1.given k).fits) p.1 z.rank_at.ensures
     (omega arith))
-    (omega arith) (sym c.before.twins.ensures ∙ c.if2.true))
+    (omega arith) (sym c.before.twins.ensures ∙ c.if-twins.true))
 
-loop-again : tie.Need-loop-preserved invariant-loop decreases-loop
+loop-again : tie.Need-loop-j-preserved invariant-loop decreases-loop
 loop-again c =
     let a = c.before.before.before.before.before.before.before.args in (
       search rules,
       one_more (λ (k : ℕ). same_candidate (candidates_in (shelf a.t) a.kept.now (suc a.i))
           (candidates_in (shelf a.t) a.kept.now (suc k)))
-          c.before.before.before.loop.j c.before.before.before.loop.invariant.1 (sym c.before.twins.ensures ∙ c.if2.false),
+          c.before.before.before.loop-j.j c.before.before.before.loop-j.invariant.1 (sym c.before.twins.ensures ∙ c.if-twins.false),
     )
 
-returns-3 : tie.Need-returns-3 invariant-loop decreases-loop
+returns-3 : tie.Need-returns invariant-loop decreases-loop
 returns-3 c =
     let z = c.before.before.before in
     let a = z.before.before.args in
     let p = z.before.before.requires in
-    let e : c.before.loop.j ≡ a.i = omega arith in
+    let e : c.before.loop-j.j ≡ a.i = omega arith in
     rw (enters_new (candidates_in (shelf a.t) a.kept.now) a.i
-    (stamp a.t a.kept.now a.i z.rank-at.result (λ k. (z.before.shared-slice-known.given k).fits) p.1 z.rank-at.ensures
+    (stamp a.t a.kept.now a.i z.rank_at.result (λ k. (z.before.shared_slice_known-1.given k).fits) p.1 z.rank_at.ensures
     (omega arith))
-    (λ j l. c.before.loop.invariant.1 j (omega arith)))
+    (λ j l. c.before.loop-j.invariant.1 j (omega arith)))
 
 pub entry_spec : {M : Type 1} → statement M
 entry_spec = tie.close (tie.spec invariant-loop decreases-loop (λ c. search rules) (λ c. search rules) (λ c κs. search rules) returns loop-holds

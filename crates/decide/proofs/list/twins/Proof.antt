@@ -15,10 +15,10 @@ returns c =
     let p = at-shared-slice-known.before.requires in
     let s = c.before.before.before.servers.ensures in
     c.same.ensures ∙ rw (part_of, part_of, s.0)
-    (same_slots (shelf a.t) a.kept.now a.i a.j (omega arith) (λ k. (at-shared-slice-known.shared-slice-known.given k).fits)
+    (same_slots (shelf a.t) a.kept.now a.i a.j (omega arith) (λ k. (at-shared-slice-known.shared_slice_known-1.given k).fits)
     p.0.size p.1 p.2)
 
-pub twins-spec : {M : Type 1} → statement M
-twins-spec = tie.close (tie.spec (λ c κs. search rules) (λ c. omega (arith, c.servers.ensures.1)) (λ c. omega (arith, c.servers.ensures.1))
+pub twins_spec : {M : Type 1} → statement M
+twins_spec = tie.close (tie.spec (λ c κs. search rules) (λ c. omega (arith, c.servers.ensures.1)) (λ c. omega (arith, c.servers.ensures.1))
     (λ c. search rules) (λ c. search rules) (λ c. search rules) (λ c. search rules) (λ c. search rules) (λ c. search rules) (λ c. search rules)
     (λ c. search rules) (λ c. search rules) (λ c. search rules) (λ c. search rules) (λ c. search rules) (λ c κs. search rules) returns)

@@ -8,19 +8,19 @@ use Rattle.decide.proofs.Ranks.{candidate-rank}
 use Rattle.decide.proofs.rank.raised.Statement.{statement}
 use Rattle.decide.proofs.rank.raised.Tie as tie
 
-returns : tie.Need-returns
+returns : tie.Need-returns-then-key-top
 unfolding raised
 returns c =
     let at-start = c.before.before.before.before in
     let a = at-start.args in
     rw (
       candidate-rank (shelf a.sought.replied.t) a.kept.now a.sought.slot at-start.requires.1,
-      ← c.before.rank-at.ensures,
+      ← c.before.rank_at-key.ensures,
       le-ltb a.top
-          c.before.rank-at.result (omega arith),
+          c.before.rank_at-key.result (omega arith),
     )
 
-returns-2 : tie.Need-returns-2
+returns-2 : tie.Need-returns-then-stays
 unfolding raised
 returns-2 c =
     let at-start = c.before.before.before.before.before.before in
@@ -28,14 +28,14 @@ returns-2 c =
     rw (
       candidate-rank (shelf a.sought.replied.t) a.kept.now a.sought.slot at-start.requires.1,
       ←
-          c.before.before.before.rank-at.ensures,
-      lt-ltb a.top c.before.before.before.rank-at.result (omega arith),
+          c.before.before.before.rank_at-key.ensures,
+      lt-ltb a.top c.before.before.before.rank_at-key.result (omega arith),
       ←
           c.before.stays.ensures,
-      c.if2.true,
+      c.if-stays.true,
     )
 
-returns-3 : tie.Need-returns-3
+returns-3 : tie.Need-returns
 unfolding raised
 returns-3 c =
     let at-start = c.before.before.before.before.before.before in
@@ -43,12 +43,12 @@ returns-3 c =
     rw (
       candidate-rank (shelf a.sought.replied.t) a.kept.now a.sought.slot at-start.requires.1,
       ←
-          c.before.before.before.rank-at.ensures,
-      lt-ltb a.top c.before.before.before.rank-at.result (omega arith),
+          c.before.before.before.rank_at-key.ensures,
+      lt-ltb a.top c.before.before.before.rank_at-key.result (omega arith),
       ←
           c.before.stays.ensures,
-      c.if2.false,
+      c.if-stays.false,
     )
 
-pub raised-spec : {M : Type 1} → statement M
-raised-spec = tie.close (tie.spec (λ c. search rules) (λ c. search rules) (λ c κs. search rules) returns (λ c κs. search rules) returns-2 returns-3)
+pub raised_spec : {M : Type 1} → statement M
+raised_spec = tie.close (tie.spec (λ c. search rules) (λ c. search rules) (λ c κs. search rules) returns (λ c κs. search rules) returns-2 returns-3)

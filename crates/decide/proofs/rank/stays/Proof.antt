@@ -18,45 +18,45 @@ use Rattle.decide.proofs.Counted.{bit_le, count_more, count_none, quorum_of}
 use Rattle.decide.proofs.rank.stays.Statement.{statement}
 use Rattle.decide.proofs.rank.stays.Tie as tie
 
-abbrev invariant-loop : tie.invariant-loop
+abbrev invariant-loop : tie.invariant-loop-j
 invariant-loop kept key replied s n₀ j₀ n j = (j ≤ s) × (n ≡ count_to j (ranks_below (marked replied.marks) (replies_in (shelf replied.t)
     replied.marks kept) key))
 
-abbrev decreases-loop : tie.decreases-loop
+abbrev decreases-loop : tie.decreases-loop-j
 decreases-loop kept key replied s n₀ j₀ n j = s - j
 
-loop-holds : tie.Need-loop-init invariant-loop decreases-loop
+loop-holds : tie.Need-loop-j-init invariant-loop decreases-loop
 loop-holds c =
     let a = c.before.before.args in
     (omega arith, sym (count_none (ranks_below (marked a.t2.marks) (replies_in (shelf a.t2.t) a.t2.marks a.kept.now) a.key)))
 
 -- Places far back, each named once: the place, and from where it is seen.
-abbrev start-from-in-loop : tie.In-loop invariant-loop decreases-loop → tie.Start invariant-loop decreases-loop
+abbrev start-from-in-loop : tie.In-loop-j invariant-loop decreases-loop → tie.Start invariant-loop decreases-loop
 start-from-in-loop c = c.before.before.before.before
 
-element-copy-out-is-lower : tie.Need-element-copy-out-is-lower invariant-loop decreases-loop
-element-copy-out-is-lower c = omega (arith, c.before.before.servers.ensures.1, (start-from-in-loop c).requires.high)
+element-copy-out-is-lower : tie.Need-bounds-replied-j invariant-loop decreases-loop
+element-copy-out-is-lower c = omega (arith, c.before.before.servers-s.ensures.1, (start-from-in-loop c).requires.high)
 
-is-lower-requires : tie.Need-is-lower-requires invariant-loop decreases-loop
+is-lower-requires : tie.Need-is_lower-n-requires invariant-loop decreases-loop
 is-lower-requires c κs =
     let at-in-loop = c.before in
     let at-start = start-from-in-loop at-in-loop in (
       at-start.pre.size,
       omega (
         arith,
-        at-in-loop.before.before.servers.ensures.1,
+        at-in-loop.before.before.servers-s.ensures.1,
         at-start.pre.high,
       ),
     )
 
-abbrev start-from-is-lower : tie.After-is-lower invariant-loop decreases-loop → tie.Start invariant-loop decreases-loop
+abbrev start-from-is-lower : tie.After-is_lower-n invariant-loop decreases-loop → tie.Start invariant-loop decreases-loop
 start-from-is-lower c = start-from-in-loop c.before.before
 
 -- the slot that is looked at is one of the array's
-slot-low : (c : tie.After-is-lower invariant-loop decreases-loop) → c.before.before.before.loop.j < most_servers
-slot-low c = omega (arith, c.before.before.before.before.servers.ensures.1, (start-from-is-lower c).requires.high)
+slot-low : (c : tie.After-is_lower-n invariant-loop decreases-loop) → c.before.before.before.loop-j.j < most_servers
+slot-low c = omega (arith, c.before.before.before.before.servers-s.ensures.1, (start-from-is-lower c).requires.high)
 
-add-n : tie.Need-overflow-add-n invariant-loop decreases-loop
+add-n : tie.Need-overflow_add-n invariant-loop decreases-loop
 add-n c =
     let at-start = start-from-is-lower c in
     let a = at-start.args in
@@ -64,41 +64,41 @@ add-n c =
     let j = slot-low c in
     omega (
       arith,
-      c.before.before.before.loop.invariant.1,
-      count-le c.before.before.before.loop.j p,
-      c.is-lower.ensures,
+      c.before.before.before.loop-j.invariant.1,
+      count-le c.before.before.before.loop-j.j p,
+      c.is_lower-n.ensures,
       at-start.pre.high,
-      c.before.before.before.before.servers.ensures.1,
-      bit_le (not (eqb (get_or a.t2.marks c.before.before.before.loop.j 0) 0) && ltb (rank_at a.kept.now
-          (replies_place + reply_slot * c.before.before.before.loop.j)) a.key),
+      c.before.before.before.before.servers-s.ensures.1,
+      bit_le (not (eqb (get_or a.t2.marks c.before.before.before.loop-j.j 0) 0) && ltb (rank_at a.kept.now
+          (replies_place + reply_slot * c.before.before.before.loop-j.j)) a.key),
     )
 
-add-j : tie.Need-overflow-add-j invariant-loop decreases-loop
-add-j c = omega (arith, c.before.before.before.before.servers.ensures.1, (start-from-is-lower c).requires.high)
+add-j : tie.Need-overflow_add-j invariant-loop decreases-loop
+add-j c = omega (arith, c.before.before.before.before.servers-s.ensures.1, (start-from-is-lower c).requires.high)
 
-loop-again : tie.Need-loop-preserved invariant-loop decreases-loop
+loop-again : tie.Need-loop-j-preserved invariant-loop decreases-loop
 loop-again c =
     let a = (start-from-is-lower c).args in
     let p = ranks_below (marked a.t2.marks) (replies_in (shelf a.t2.t) a.t2.marks a.kept.now) a.key in
     let j = slot-low c in
-    let e : c.is-lower.result ≡ bit (p (suc c.before.before.before.loop.j)) = c.is-lower.ensures ∙ ap bit
-    (sym (below-slot (shelf a.t2.t) a.kept.now a.t2.marks a.key c.before.before.before.loop.j j)) in
-    (omega arith, omega (arith, c.before.before.before.loop.invariant.1, count_more c.before.before.before.loop.j p, e))
+    let e : c.is_lower-n.result ≡ bit (p (suc c.before.before.before.loop-j.j)) = c.is_lower-n.ensures ∙ ap bit
+    (sym (below-slot (shelf a.t2.t) a.kept.now a.t2.marks a.key c.before.before.before.loop-j.j j)) in
+    (omega arith, omega (arith, c.before.before.before.loop-j.invariant.1, count_more c.before.before.before.loop-j.j p, e))
 
-sub-result : tie.Need-overflow-sub-result invariant-loop decreases-loop
-sub-result c = omega (arith, c.before.before.servers.ensures.1)
+sub-result : tie.Need-overflow_sub-result invariant-loop decreases-loop
+sub-result c = omega (arith, c.before.before.servers-s.ensures.1)
 
 returns : tie.Need-returns invariant-loop decreases-loop
 unfolding stays
 returns c =
     let a = c.before.before.before.before.args in
     let p = ranks_below (marked a.t2.marks) (replies_in (shelf a.t2.t) a.t2.marks a.kept.now) a.key in
-    let e : c.before.loop.j ≡ (shelf a.t2.t).servers = omega (arith, c.before.before.servers.ensures.0) in
-    let n : c.before.loop.n ≡ count_to (shelf a.t2.t).servers p = c.before.loop.invariant.1 ∙ ap (λ (k : ℕ). count_to k p) e in
-    ap (λ (x : ℕ). ltb x (c.before.before.servers.result - a.t2.t)) n
-    ∙ ap (λ (x : ℕ). ltb (count_to (shelf a.t2.t).servers p) x) (quorum_of a.t2.t c.before.before.servers.result
-    c.before.before.servers.ensures.1)
+    let e : c.before.loop-j.j ≡ (shelf a.t2.t).servers = omega (arith, c.before.before.servers-s.ensures.0) in
+    let n : c.before.loop-j.n ≡ count_to (shelf a.t2.t).servers p = c.before.loop-j.invariant.1 ∙ ap (λ (k : ℕ). count_to k p) e in
+    ap (λ (x : ℕ). ltb x (c.before.before.servers-s.result - a.t2.t)) n
+    ∙ ap (λ (x : ℕ). ltb (count_to (shelf a.t2.t).servers p) x) (quorum_of a.t2.t c.before.before.servers-s.result
+    c.before.before.servers-s.ensures.1)
 
-pub stays-spec : {M : Type 1} → statement M
-stays-spec = tie.close (tie.spec invariant-loop decreases-loop (λ c κs. search rules) loop-holds element-copy-out-is-lower is-lower-requires add-n add-j
+pub stays_spec : {M : Type 1} → statement M
+stays_spec = tie.close (tie.spec invariant-loop decreases-loop (λ c κs. search rules) loop-holds element-copy-out-is-lower is-lower-requires add-n add-j
     (λ c. omega arith) loop-again sub-result returns)

@@ -10,41 +10,41 @@ use Rattle.decide.specs.Steps.{raised, top_rank, top_at}
 use Rattle.decide.proofs.rank.top.Statement.{statement}
 use Rattle.decide.proofs.rank.top.Tie as tie
 
-abbrev invariant-loop : tie.invariant-loop
+abbrev invariant-loop : tie.invariant-loop-i
 invariant-loop kept replied s key₀ i₀ key i = (i ≤ s) × (key ≡ top_at replied.t replied.marks kept i)
 
-abbrev decreases-loop : tie.decreases-loop
+abbrev decreases-loop : tie.decreases-loop-i
 decreases-loop kept replied s key₀ i₀ key i = s - i
 
-loop-holds : tie.Need-loop-init invariant-loop decreases-loop
+loop-holds : tie.Need-loop-i-init invariant-loop decreases-loop
 unfolding top_at top_rank
 loop-holds c = (omega arith, refl)
 
-raised-requires : tie.Need-raised-requires invariant-loop decreases-loop
+raised-requires : tie.Need-raised-higher-requires invariant-loop decreases-loop
 raised-requires c κs =
     let at-start = c.before.before.before.before in (
       at-start.requires,
       omega (
         arith,
-        c.before.before.servers.ensures.1,
+        c.before.before.servers-s.ensures.1,
         at-start.requires.high,
       ),
     )
 
-add-i : tie.Need-overflow-add-i invariant-loop decreases-loop
-add-i c = omega (arith, c.before.before.before.servers.ensures.1, c.before.before.before.before.before.requires.high)
+add-i : tie.Need-overflow_add-i invariant-loop decreases-loop
+add-i c = omega (arith, c.before.before.before.servers-s.ensures.1, c.before.before.before.before.before.requires.high)
 
-loop-again : tie.Need-loop-preserved invariant-loop decreases-loop
+loop-again : tie.Need-loop-i-preserved invariant-loop decreases-loop
 unfolding top_at top_rank
-loop-again c = (omega arith, rw (add-one, ← c.before.before.loop.invariant.1) c.raised.ensures)
+loop-again c = (omega arith, rw (add-one, ← c.before.before.loop-i.invariant.1) c.raised-higher.ensures)
 
 returns : tie.Need-returns invariant-loop decreases-loop
 returns c =
     let at-start = c.before.before.before.before in
-    let e : c.before.loop.i ≡ (shelf at-start.args.replied.t).servers = omega
-    (arith, c.before.before.servers.ensures.0) in c.before.loop.invariant.1 ∙ ap (λ (k : ℕ). top_at at-start.args.replied.t
+    let e : c.before.loop-i.i ≡ (shelf at-start.args.replied.t).servers = omega
+    (arith, c.before.before.servers-s.ensures.0) in c.before.loop-i.invariant.1 ∙ ap (λ (k : ℕ). top_at at-start.args.replied.t
     at-start.args.replied.marks
     at-start.args.kept.now k) e
 
-pub top-spec : {M : Type 1} → statement M
-top-spec = tie.close (tie.spec invariant-loop decreases-loop (λ c κs. search rules) loop-holds raised-requires add-i (λ c. omega arith) loop-again returns)
+pub top_spec : {M : Type 1} → statement M
+top_spec = tie.close (tie.spec invariant-loop decreases-loop (λ c κs. search rules) loop-holds raised-requires add-i (λ c. omega arith) loop-again returns)

@@ -22,8 +22,8 @@ returns : tie.Need-returns
 unfolding slot_held
 returns c = c.alike.ensures ∙ rw (slot_lent, slot_lent)
 
-pub alike-at-spec : {M : Type 1} → statement M
-alike-at-spec = tie.close (tie.spec (λ c. omega (arith, c.before.requires.0.size)) (λ c. omega (arith, c.before.requires.0.size))
+pub alike_at_spec : {M : Type 1} → statement M
+alike_at_spec = tie.close (tie.spec (λ c. omega (arith, c.before.requires.0.size)) (λ c. omega (arith, c.before.requires.0.size))
     (λ c. omega (arith, c.before.requires.0.size)) (λ c. omega (arith, c.before.requires.0.size)) (λ c. omega (arith, c.before.requires.0.size))
     (λ c. omega (arith, c.before.requires.0.size)) (λ c. omega (arith, c.before.requires.0.size)) (λ c. omega (arith, c.before.requires.0.size))
     (λ c. omega (arith, c.before.before.requires.0.size)) (λ c. omega (arith, c.before.before.requires.0.size))

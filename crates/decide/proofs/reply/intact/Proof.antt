@@ -16,18 +16,18 @@ use Rattle.decide.proofs.Replies.{size_in_def, digests_in_def, fragment-handed, 
 use Rattle.decide.proofs.reply.intact.Statement.{statement}
 use Rattle.decide.proofs.reply.intact.Tie as tie
 
-digests-at-requires : tie.Need-digests-at-requires
+digests-at-requires : tie.Need-digests_at-e-requires
 digests-at-requires c κs = let p = c.before.before.requires in (p.0, p.1, omega (arith, c.type_size.ensures, p.3.top))
 
 -- the digest of server j + 1's fragment ends within the reply
-fine : (c : tie.After-digests-at)
-    → c.digests-at.result + digest_size * c.before.before.before.args.j + digest_size ≤ length c.before.before.before.args.reply.now
+fine : (c : tie.After-digests_at-e)
+    → c.digests_at-e.result + digest_size * c.before.before.before.args.j + digest_size ≤ length c.before.before.before.args.reply.now
 fine c =
     let p = c.before.before.before.requires in
-    omega (arith, c.digests-at.ensures.room, p.2, p.4)
+    omega (arith, c.digests_at-e.ensures.room, p.2, p.4)
 
 -- Places far back, each named once: the place, and from where it is seen.
-abbrev digests-at-from-digest : tie.After-digest → tie.After-digests-at
+abbrev digests-at-from-digest : tie.After-digest-d → tie.After-digests_at-e
 digests-at-from-digest c = c.before.before.before
 
 returns : tie.Need-returns
@@ -38,21 +38,21 @@ returns c =
     let p = at-start.requires in
     let F : ℕ = fragment_size_def (shelf a.t).threshold (size_in_def a.reply.now) in
     let z = ap (fragment_size_def (shelf a.t).threshold) at-share-fragment.before.before.before.type_size.ensures in
-    let e : at-share-fragment.before.before.digests-at.result ≡ digests_in_def (shelf a.t) a.reply.now = omega
-    (arith, at-share-fragment.before.before.digests-at.ensures.place, z) in
-    let handed = at-share-fragment.share-fragment.ensures
+    let e : at-share-fragment.before.before.digests_at-e.result ≡ digests_in_def (shelf a.t) a.reply.now = omega
+    (arith, at-share-fragment.before.before.digests_at-e.ensures.place, z) in
+    let handed = at-share-fragment.share_fragment.ensures
     ∙ (ap (λ (d : List ℕ). (share_at (shelf a.t) d).fragment) at-share-fragment.before.rest.ensures
     ∙ fragment-handed (shelf a.t) a.reply.now) in
-    let at : ℕ = at-share-fragment.before.before.digests-at.result + digest_size * a.j in
+    let at : ℕ = at-share-fragment.before.before.digests_at-e.result + digest_size * a.j in
     c.same.ensures
     ∙ ap (λ (x : List ℕ). same_list x (take (at + digest_size - at) (drop at a.reply.now)))
-    (c.before.before.before.digest.ensures ∙ ap sha256 handed)
+    (c.before.before.before.digest-d.ensures ∙ ap sha256 handed)
     ∙ ap (same_list (sha256 (bytes_at a.reply.now (stamp_size + 3) F)))
     (part_of a.reply.now at digest_size ∙ ap (λ (k : ℕ). bytes_at a.reply.now (k + digest_size * a.j) digest_size) e)
     ∙ sym (intact_in (shelf a.t) a.reply.now p.3 a.j p.4)
 
-pub intact-spec : {M : Type 1} → statement M
-intact-spec = tie.close (tie.spec (λ c κs. search rules) digests-at-requires (λ c κs. search rules) (λ c. search rules)
+pub intact_spec : {M : Type 1} → statement M
+intact_spec = tie.close (tie.spec (λ c κs. search rules) digests-at-requires (λ c κs. search rules) (λ c. search rules)
     (λ c κs. search rules) (λ c κs. search rules) (λ c. omega (arith, fine (digests-at-from-digest c)))
     (λ c. omega (arith, fine (digests-at-from-digest c))) (λ c. search rules) (λ c. omega (arith, fine (digests-at-from-digest c.before)))
     (λ c. omega (arith, fine (digests-at-from-digest c.before))) (λ c. omega (arith, fine (digests-at-from-digest c.before)))

@@ -22,8 +22,8 @@ returns : tie.Need-returns
 unfolding slot_held
 returns c = c.intact.ensures ∙ rw slot_lent
 
-pub intact-at-spec : {M : Type 1} → statement M
-intact-at-spec = tie.close (tie.spec (λ c. omega (arith, c.before.requires.0.size, c.before.requires.1, few c.before.requires.0))
+pub intact_at_spec : {M : Type 1} → statement M
+intact_at_spec = tie.close (tie.spec (λ c. omega (arith, c.before.requires.0.size, c.before.requires.1, few c.before.requires.0))
     (λ c. omega (arith, c.before.requires.0.size, c.before.requires.1, few c.before.requires.0))
     (λ c. omega (arith, c.before.requires.0.size, c.before.requires.1, few c.before.requires.0))
     (λ c. omega (arith, c.before.requires.0.size, c.before.requires.1, few c.before.requires.0))

@@ -6,12 +6,12 @@ use Rattle.protocol.proofs.Room.{shelf-fits}
 use Rattle.decide.proofs.sizes.digests_at.Statement.{statement}
 use Rattle.decide.proofs.sizes.digests_at.Tie as tie
 
-add-result : tie.Need-overflow-add-result
+add-result : tie.Need-overflow_add-result
 unfolding share_size_def
 add-result c = let p = c.before.requires in omega (
   arith,
   (shelf-fits c.before.args.t p.0 p.1).room c.before.args.n p.2,
-  c.fragment-size.ensures,
+  c.fragment_size.ensures,
 )
 
 returns : tie.Need-returns
@@ -19,7 +19,7 @@ unfolding share_size_def
 returns c =
     let p = c.before.requires in
     let f = (shelf-fits c.before.args.t p.0 p.1).room c.before.args.n p.2 in
-    record { place = omega (arith, c.fragment-size.ensures); room = omega (arith, c.fragment-size.ensures, f) }
+    record { place = omega (arith, c.fragment_size.ensures); room = omega (arith, c.fragment_size.ensures, f) }
 
-pub digests-at-spec : {M : Type 1} → statement M
-digests-at-spec = tie.close (tie.spec (λ c κs. search rules) add-result returns)
+pub digests_at_spec : {M : Type 1} → statement M
+digests_at_spec = tie.close (tie.spec (λ c κs. search rules) add-result returns)

@@ -4,7 +4,7 @@ use Rattle.decide.proofs.sizes.fragment_size.Statement.{statement}
 use Rattle.decide.proofs.sizes.fragment_size.Tie as tie
 
 returns : tie.Need-returns
-returns c = c.fragment-size.ensures
+returns c = c.fragment_size.ensures
 
-pub fragment-size-spec : {M : Type 1} → statement M
-fragment-size-spec = tie.close (tie.spec (λ c. search rules) (λ c. search rules) (λ c κs. search rules) returns)
+pub fragment_size_spec : {M : Type 1} → statement M
+fragment_size_spec = tie.close (tie.spec (λ c. search rules) (λ c. search rules) (λ c κs. search rules) returns)

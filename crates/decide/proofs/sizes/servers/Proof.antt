@@ -9,5 +9,5 @@ returns : tie.Need-returns
 unfolding shelf
 returns c = (c.servers.ensures, omega (arith, c.servers.ensures))
 
-pub servers-spec : {M : Type 1} → statement M
-servers-spec = tie.close (tie.spec (λ c. search rules) (λ c κs. search rules) returns)
+pub servers_spec : {M : Type 1} → statement M
+servers_spec = tie.close (tie.spec (λ c. search rules) (λ c κs. search rules) returns)

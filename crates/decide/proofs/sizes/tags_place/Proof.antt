@@ -11,7 +11,7 @@ unfolding share_size_def
 returns c =
     let p = c.before.requires in
     let f = (shelf-fits c.before.args.t p.0 p.1).room c.before.args.n p.2 in
-    record { place = c.tags-at.ensures; room = omega (arith, c.tags-at.ensures, f) }
+    record { place = c.tags_at.ensures; room = omega (arith, c.tags_at.ensures, f) }
 
-pub tags-place-spec : {M : Type 1} → statement M
-tags-place-spec = tie.close (tie.spec (λ c. search rules) (λ c. search rules) (λ c κs. search rules) returns)
+pub tags_place_spec : {M : Type 1} → statement M
+tags_place_spec = tie.close (tie.spec (λ c. search rules) (λ c. search rules) (λ c κs. search rules) returns)

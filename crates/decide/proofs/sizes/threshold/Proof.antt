@@ -9,5 +9,5 @@ returns : tie.Need-returns
 unfolding shelf
 returns c = (c.threshold.ensures, omega (arith, c.threshold.ensures))
 
-pub threshold-spec : {M : Type 1} → statement M
-threshold-spec = tie.close (tie.spec (λ c. search rules) (λ c κs. search rules) returns)
+pub threshold_spec : {M : Type 1} → statement M
+threshold_spec = tie.close (tie.spec (λ c. search rules) (λ c κs. search rules) returns)

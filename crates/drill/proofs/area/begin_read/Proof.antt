@@ -17,12 +17,12 @@ returns c =
     let w = a.work.now in
     begins_as w a.client at-call-of.before.before.before.requires.0 at-call-of.before.before.before.requires.1
     (λ x y. core_read a.t a.client x y) (begin_read_def a.t a.client (call_in w a.client) (kept_in w a.client))
-    (at-work.before.before.before.kept_at.result + 24576 - at-work.before.before.before.kept_at.result)
+    (at-work.before.before.before.kept_at-a.result + 24576 - at-work.before.before.before.kept_at-a.result)
     (core_read_lem w a.client at-call-of.before.before.before.requires.0 at-call-of.before.before.before.requires.1 a.t)
-    at-call-of.call-of.ensures at-work.before.before.before.kept_at.ensures.0 (omega arith) at-work.before.begin-read-in.ensures.0
-    at-work.before.begin-read-in.ensures.1 at-work.work.given.0 c.before.before.before.put-call.ensures.0
-    c.before.before.before.put-call.ensures.1
+    at-call-of.call_of-call.ensures at-work.before.before.before.kept_at-a.ensures.0 (omega arith) at-work.before.begin_read_in-s.ensures.0
+    at-work.before.begin_read_in-s.ensures.1 at-work.work-1.given.0 c.before.before.before.put_call.ensures.0
+    c.before.before.before.put_call.ensures.1
 
-pub begin-read-spec : {M : Type 1} → statement M
-begin-read-spec = tie.close (tie.spec (λ c κs. search rules) (λ c κs. search rules) (λ c. search rules) (λ c. search rules) (λ c. search rules)
+pub begin_read_spec : {M : Type 1} → statement M
+begin_read_spec = tie.close (tie.spec (λ c κs. search rules) (λ c κs. search rules) (λ c. search rules) (λ c. search rules) (λ c. search rules)
     (λ c. search rules) (λ c κs. search rules) (λ c κs. search rules) (λ c. search rules) returns)

@@ -10,5 +10,5 @@ returns : tie.Need-returns
 unfolding client_at_def
 returns c = (refl, omega arith)
 
-pub client-at-spec : {M : Type 1} → statement M
-client-at-spec = tie.close (tie.spec (λ c. search rules) (λ c. search rules) (λ c. search rules) returns)
+pub client_at_spec : {M : Type 1} → statement M
+client_at_spec = tie.close (tie.spec (λ c. search rules) (λ c. search rules) (λ c. search rules) returns)

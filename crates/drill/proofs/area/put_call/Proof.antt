@@ -14,11 +14,11 @@ returns c =
     let m : length at-client-at.before.before.args.call.tally.marks ≡ 13 = search rules in (
       put_as at-client-at.before.before.args.work.now at-client-at.before.before.args.client
           at-client-at.before.before.requires.0 at-client-at.before.before.requires.1
-          at-client-at.before.before.args.call (at-client-at.client-at.result + 64 -
-          at-client-at.client-at.result) at-client-at.client-at.ensures.0 (omega arith) m c.before.before.put.ensures,
+          at-client-at.before.before.args.call (at-client-at.client_at-a.result + 64 -
+          at-client-at.client_at-a.result) at-client-at.client_at-a.ensures.0 (omega arith) m c.before.before.put.ensures,
       m,
     )
 
-pub put-call-spec : {M : Type 1} → statement M
-put-call-spec = tie.close (tie.spec (λ c κs. search rules) (λ c. search rules) (λ c. search rules) (λ c. search rules) (λ c. search rules)
+pub put_call_spec : {M : Type 1} → statement M
+put_call_spec = tie.close (tie.spec (λ c κs. search rules) (λ c. search rules) (λ c. search rules) (λ c. search rules) (λ c. search rules)
     (λ c κs. search rules) (λ c. search rules) returns)

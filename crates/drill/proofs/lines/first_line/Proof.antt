@@ -5,21 +5,21 @@ use borrow.Author.Rules.{rules}
 use Rattle.drill.proofs.lines.first_line.Statement.{statement}
 use Rattle.drill.proofs.lines.first_line.Tie as tie
 
-returns : tie.Need-returns
-returns c = rw (no_text _ (line-told c.before.before.line_at_lem.ensures c.enum_told.given.1))
+returns : tie.Need-returns-in_default
+returns c = rw (no_text _ (line-told c.before.before.line_at_lem.ensures c.enum_told-1.given.1))
 
-returns-2 : tie.Need-returns-2
+returns-2 : tie.Need-returns-then-is_first
 returns-2 c =
     let at-l = c.before.before.before in
-    let e = line-told at-l.before.before.line_at_lem.ensures at-l.l.given.1 in
-    rw (is_first_line _ _ e (sym c.before.is-first.ensures ∙ c.if1.true))
+    let e = line-told at-l.before.before.line_at_lem.ensures at-l.l-1.given.1 in
+    rw (is_first_line _ _ e (sym c.before.is_first.ensures ∙ c.if-is_first.true))
 
-returns-3 : tie.Need-returns-3
+returns-3 : tie.Need-returns
 returns-3 c =
     let at-l = c.before.before.before in
-    let e = line-told at-l.before.before.line_at_lem.ensures at-l.l.given.1 in
-    rw (no_first_line _ _ e (sym c.before.is-first.ensures ∙ c.if1.false))
+    let e = line-told at-l.before.before.line_at_lem.ensures at-l.l-1.given.1 in
+    rw (no_first_line _ _ e (sym c.before.is_first.ensures ∙ c.if-is_first.false))
 
-pub first-line-spec : {M : Type 1} → statement M
-first-line-spec = tie.close (tie.spec (λ c κs. search rules) (λ c. search rules) (λ c. search rules) returns (λ c κs. search rules) returns-2
+pub first_line_spec : {M : Type 1} → statement M
+first_line_spec = tie.close (tie.spec (λ c κs. search rules) (λ c. search rules) (λ c. search rules) returns (λ c κs. search rules) returns-2
     returns-3)

@@ -4,7 +4,7 @@ use Rattle.drill.proofs.lines.is_alone.Statement.{statement}
 use Rattle.drill.proofs.lines.is_alone.Tie as tie
 
 returns : tie.Need-returns
-returns c = rw c.no-content.ensures
+returns c = rw c.no_content.ensures
 
-pub is-alone-spec : {M : Type 1} → statement M
-is-alone-spec = tie.close (tie.spec (λ c κs. search rules) returns)
+pub is_alone_spec : {M : Type 1} → statement M
+is_alone_spec = tie.close (tie.spec (λ c κs. search rules) returns)

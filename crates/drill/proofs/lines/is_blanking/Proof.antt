@@ -4,7 +4,7 @@ use Rattle.drill.proofs.lines.is_blanking.Statement.{statement}
 use Rattle.drill.proofs.lines.is_blanking.Tie as tie
 
 returns : tie.Need-returns
-returns c = rw c.no-content.ensures
+returns c = rw c.no_content.ensures
 
-pub is-blanking-spec : {M : Type 1} → statement M
-is-blanking-spec = tie.close (tie.spec (λ c κs. search rules) returns)
+pub is_blanking_spec : {M : Type 1} → statement M
+is_blanking_spec = tie.close (tie.spec (λ c κs. search rules) returns)

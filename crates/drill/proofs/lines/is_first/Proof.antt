@@ -4,7 +4,7 @@ use Rattle.drill.proofs.lines.is_first.Statement.{statement}
 use Rattle.drill.proofs.lines.is_first.Tie as tie
 
 returns : tie.Need-returns
-returns c = rw c.is-alone.ensures
+returns c = rw c.is_alone.ensures
 
-pub is-first-spec : {M : Type 1} → statement M
-is-first-spec = tie.close (tie.spec (λ c κs. search rules) returns)
+pub is_first_spec : {M : Type 1} → statement M
+is_first_spec = tie.close (tie.spec (λ c κs. search rules) returns)

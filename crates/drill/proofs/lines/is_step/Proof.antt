@@ -6,26 +6,26 @@ use borrow.Author.Rules.{rules}
 use Rattle.drill.proofs.lines.is_step.Statement.{statement}
 use Rattle.drill.proofs.lines.is_step.Tie as tie
 
-returns : tie.Need-returns
+returns : tie.Need-returns-in-1
 unfolding is_step_def
-returns c = rw c.before.match.keys1 c.is-write.ensures
+returns c = rw c.before.in-1.keys1 c.is_write.ensures
 
-returns-2 : tie.Need-returns-2
+returns-2 : tie.Need-returns-in-2
 unfolding is_step_def
-returns-2 c = ⊎_elim (λ e. rw e c.is-alone.ensures) (λ e. rw e c.is-alone.ensures) c.before.match.keys2
+returns-2 c = ⊎_elim (λ e. rw e c.is_alone.ensures) (λ e. rw e c.is_alone.ensures) c.before.in-2.keys2
 
-returns-3 : tie.Need-returns-3
+returns-3 : tie.Need-returns-in-3
 unfolding is_step_def
-returns-3 c = rw c.before.match.keys3 c.no-content.ensures
+returns-3 c = rw c.before.in-3.keys3 c.no_content.ensures
 
-returns-4 : tie.Need-returns-4
+returns-4 : tie.Need-returns-in-4
 unfolding is_step_def
-returns-4 c = rw c.before.match.keys4 c.is-blanking.ensures
+returns-4 c = rw c.before.in-4.keys4 c.is_blanking.ensures
 
-returns-5 : tie.Need-returns-5
+returns-5 : tie.Need-returns-in_default
 unfolding is_step_def
 returns-5 c =
-    let none = c.match.rest in
+    let none = c.in_default.rest in
     rw (
       ne_eqb _ _ none.0.0.0.1,
       ne_eqb _ _ (λ e. none.0.0.1 (inl e)),
@@ -34,6 +34,6 @@ returns-5 c =
       ne_eqb _ _ none.1,
     )
 
-pub is-step-spec : {M : Type 1} → statement M
-is-step-spec = tie.close (tie.spec (λ c κs. search rules) (λ c κs. search rules) (λ c κs. search rules) (λ c κs. search rules) returns returns-2
+pub is_step_spec : {M : Type 1} → statement M
+is_step_spec = tie.close (tie.spec (λ c κs. search rules) (λ c κs. search rules) (λ c κs. search rules) (λ c κs. search rules) returns returns-2
     returns-3 returns-4 returns-5)

@@ -11,7 +11,7 @@ unfolding last_row
 returns c =
     let at-put-row = c.before.before in
     let at-start = at-put-row.before.before.before.before in
-    row_put at-start.args.out.now at-start.args.at _ refl at-start.requires at-put-row.put-row.ensures
+    row_put at-start.args.out.now at-start.args.at _ refl at-start.requires at-put-row.put_row.ensures
 
-pub put-last-spec : {M : Type 1} → statement M
-put-last-spec = tie.close (tie.spec (λ c. search rules) (λ c κs. search rules) (λ c. search rules) returns)
+pub put_last_spec : {M : Type 1} → statement M
+put_last_spec = tie.close (tie.spec (λ c. search rules) (λ c κs. search rules) (λ c. search rules) returns)

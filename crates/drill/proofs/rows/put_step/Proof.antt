@@ -11,7 +11,7 @@ unfolding step_row
 returns c =
     let at-put-row = c.before.before in
     let at-start = at-put-row.before.before.before.before in
-    row_put at-start.args.out.now at-start.args.at _ refl at-start.requires at-put-row.put-row.ensures
+    row_put at-start.args.out.now at-start.args.at _ refl at-start.requires at-put-row.put_row.ensures
 
-pub put-step-spec : {M : Type 1} → statement M
-put-step-spec = tie.close (tie.spec (λ c. search rules) (λ c κs. search rules) (λ c. search rules) returns)
+pub put_step_spec : {M : Type 1} → statement M
+put_step_spec = tie.close (tie.spec (λ c. search rules) (λ c κs. search rules) (λ c. search rules) returns)

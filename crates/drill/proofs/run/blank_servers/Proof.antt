@@ -8,30 +8,30 @@ use borrow.Author.Rules.{rules}
 use Rattle.drill.proofs.run.blank_servers.Statement.{statement}
 use Rattle.drill.proofs.run.blank_servers.Tie as tie
 
-abbrev invariant-loop : tie.invariant-loop
+abbrev invariant-loop : tie.invariant-loop-b
 invariant-loop work₀ t n b₀ work b = Ready t b work
 
-abbrev decreases-loop : tie.decreases-loop
+abbrev decreases-loop : tie.decreases-loop-b
 decreases-loop work₀ t n b₀ work b = n + 1 - b
 
-loop-holds : tie.Need-loop-init invariant-loop decreases-loop
+loop-holds : tie.Need-loop-b-init invariant-loop decreases-loop
 loop-holds c = ready_none c.before.before.args.t c.before.before.args.work.now c.before.before.requires.1.0
     c.before.before.requires.1.1
 
 blank-requires : tie.Need-blank-requires invariant-loop decreases-loop
 blank-requires c κs =
     let at-loop = c.before.before in
-    let e = c.before.before.before.servers.ensures in (
-      few-servers at-loop.before.before.before.args.t c.before.before.loop.b
-          at-loop.before.before.before.requires.0.1 (c.before.before.loop.invariant.low, omega arith),
-      c.before.before.loop.invariant.size,
+    let e = c.before.before.before.servers-n.ensures in (
+      few-servers at-loop.before.before.before.args.t c.before.before.loop-b.b
+          at-loop.before.before.before.requires.0.1 (c.before.before.loop-b.invariant.low, omega arith),
+      c.before.before.loop-b.invariant.size,
     )
 
 -- Places far back, each named once: the place, and from where it is seen.
-abbrev at-loop-from-slice-known2 : tie.After-slice-known2 invariant-loop decreases-loop → tie.At-loop invariant-loop decreases-loop
+abbrev at-loop-from-slice-known2 : tie.After-slice_known-in-loop-b-1 invariant-loop decreases-loop → tie.At-loop-b invariant-loop decreases-loop
 at-loop-from-slice-known2 c = c.before.before.before.before.before
 
-add-b : tie.Need-overflow-add-b invariant-loop decreases-loop
+add-b : tie.Need-overflow_add-b invariant-loop decreases-loop
 add-b c =
     let at-loop = at-loop-from-slice-known2 c in
     let e = at-loop.before.servers.ensures in let h = few-servers at-loop.before.before.before.args.t at-loop.loop.b
@@ -41,7 +41,7 @@ add-b c =
           arith,
     ) in omega arith
 
-loop-again : tie.Need-loop-preserved invariant-loop decreases-loop
+loop-again : tie.Need-loop-b-preserved invariant-loop decreases-loop
 loop-again c =
     let at-loop = at-loop-from-slice-known2 c in
     let e = at-loop.before.servers.ensures in
@@ -49,13 +49,13 @@ loop-again c =
     at-loop.loop.work _ at-loop.before.before.before.pre.0
     (omega arith) at-loop.loop.inv c.before.before.blank.ensures
 
-same_length : tie.Need-same-length invariant-loop decreases-loop
-same_length c = c.before.loop.invariant.size ∙ sym c.before.before.before.before.requires.1.0
+same_length : tie.Need-shape_of-work invariant-loop decreases-loop
+same_length c = c.before.loop-b.invariant.size ∙ sym c.before.before.before.before.requires.1.0
 
 returns : tie.Need-returns invariant-loop decreases-loop
-returns c = let e = c.before.before.servers.ensures in ready_all c.before.before.before.before.args.t c.before.loop.b
-    c.before.loop.work (omega arith) c.before.loop.invariant
+returns c = let e = c.before.before.servers-n.ensures in ready_all c.before.before.before.before.args.t c.before.loop-b.b
+    c.before.loop-b.work (omega arith) c.before.loop-b.invariant
 
-pub blank-servers-spec : {M : Type 1} → statement M
-blank-servers-spec = tie.close (tie.spec invariant-loop decreases-loop (λ c. search rules) (λ c κs. search rules) loop-holds blank-requires add-b
+pub blank_servers_spec : {M : Type 1} → statement M
+blank_servers_spec = tie.close (tie.spec invariant-loop decreases-loop (λ c. search rules) (λ c κs. search rules) loop-holds blank-requires add-b
     (λ c. search rules) loop-again same_length returns)

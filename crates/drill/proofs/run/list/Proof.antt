@@ -22,16 +22,16 @@ use Rattle.drill.proofs.run.list.Tie as tie
 -- ---- at the first line
 
 -- Places far back, each named once: the place, and from where it is seen.
-abbrev start-from-else1 : tie.Else1 → tie.Start
+abbrev start-from-else1 : tie.Else-sheet-eq0 → tie.Start
 start-from-else1 c = c.before.before.before.before
 
-abbrev else1-from-enum-told : tie.After-enum-told → tie.Else1
+abbrev else1-from-enum-told : tie.In_default → tie.Else-sheet-eq0
 else1-from-enum-told c = c.before.before.before
 
-abbrev else1-from-l : tie.After-l → tie.Else1
+abbrev else1-from-l : tie.In-Line-2 → tie.Else-sheet-eq0
 else1-from-l c = c.before.before.before
 
-module _ (c : tie.Else1) where
+module _ (c : tie.Else-sheet-eq0) where
   abbrev sheet : List ℕ
   sheet = (start-from-else1 c).args.sheet.now
 
@@ -39,68 +39,68 @@ module _ (c : tie.Else1) where
   given = (start-from-else1 c).args.out.now
 
   stands : 0 < length sheet
-  stands = let h = c.if1.false in omega arith
+  stands = let h = c.if-sheet-eq0.false in omega arith
 
   room : 0 + row_size ≤ length given
   room = first-room sheet given (start-from-else1 c).requires.1
 
-module _ (c : tie.After-l) where
+module _ (c : tie.In-Line-2) where
   abbrev line : Line
-  line = c.l.given.0.0
+  line = c.l-1.given.0.0
 
   first-is : first_line_def (line_at (sheet (else1-from-l c)) 0) ≡ some line
-  first-is = line-told c.before.before.first-line.ensures c.l.given.1
+  first-is = line-told c.before.before.first_line.ensures c.l-1.given.1
 
-abbrev l-from-then2 : tie.Then2 → tie.After-l
+abbrev l-from-then2 : tie.Then-outside → tie.In-Line-2
 l-from-then2 c = c.before.before.before.before
 
-abbrev l-from-else2 : tie.Else2 → tie.After-l
+abbrev l-from-else2 : tie.Else-outside → tie.In-Line-2
 l-from-else2 c = c.before.before.before.before
 
-right-t : (c : tie.Else2) → (1 ≤ (line (l-from-else2 c)).client) × ((line (l-from-else2 c)).client ≤ top_faults)
-right-t c = is_in 1 top_faults _ c.before.outside.ensures c.if2.false
+right-t : (c : tie.Else-outside) → (1 ≤ (line (l-from-else2 c)).client) × ((line (l-from-else2 c)).client ≤ top_faults)
+right-t c = is_in 1 top_faults _ c.before.outside.ensures c.if-outside.false
 
 -- ---- the needs
 
-returns : tie.Need-returns
+returns : tie.Need-returns-then-sheet-eq0
 returns c =
     let at-start = c.before.before.before.before in
-    lists_none at-start.args.sheet.now at-start.args.out.now c.if1.true
+    lists_none at-start.args.sheet.now at-start.args.out.now c.if-sheet-eq0.true
 
-put-last-requires : tie.Need-put-last-requires
+put-last-requires : tie.Need-put_last-requires
 put-last-requires c κs = room (else1-from-enum-told c.before)
 
-returns-2 : tie.Need-returns-2
+returns-2 : tie.Need-returns-in_default
 returns-2 c =
     let at-enum-told = c.before.before.before.before in
     let at-else1 = else1-from-enum-told at-enum-told in
     lists-117 (sheet at-else1) (given at-else1) (stands at-else1)
-    (line-told at-enum-told.before.before.first-line.ensures at-enum-told.enum_told.given.1) c.before.before.put_last.ensures
+    (line-told at-enum-told.before.before.first_line.ensures at-enum-told.enum_told-1.given.1) c.before.before.put_last.ensures
 
-put-last-requires-2 : tie.Need-put-last-requires-2
+put-last-requires-2 : tie.Need-put_last-requires-then-outside
 put-last-requires-2 c κs = room (else1-from-l (l-from-then2 c.before))
 
-returns-3 : tie.Need-returns-3
+returns-3 : tie.Need-returns-then-outside
 returns-3 c =
     let at-then2 = c.before.before.before.before in
     let at-l = l-from-then2 at-then2 in
     let at-else1 = else1-from-l at-l in
     lists-103 (sheet at-else1) (given at-else1) (stands at-else1) (line at-l) (first-is at-l)
-    (not-true _ (sym at-then2.before.outside.ensures ∙ at-then2.if2.true)) c.before.before.put-last2.ensures
+    (not-true _ (sym at-then2.before.outside.ensures ∙ at-then2.if-outside.true)) c.before.before.put_last-then-outside.ensures
 
-blank-servers-requires : tie.Need-blank-servers-requires
+blank-servers-requires : tie.Need-blank_servers-requires
 blank-servers-requires c κs = (right-t c.before, (start-from-else1 (else1-from-l (l-from-else2 c.before))).requires.0)
 
-rows-from-requires : tie.Need-rows-from-requires
+rows-from-requires : tie.Need-rows_from-requires
 rows-from-requires c κs =
     let at-blank-servers = c.before.before.before.before.before in
     let at-else2 = at-blank-servers.before.before in
     let at-else1 = else1-from-l (l-from-else2 at-else2) in
     let n = (next-later (sheet at-else1) 0 (stands at-else1)).1 in
     let r = rows-room (sheet at-else1) (given at-else1) (start-from-else1 at-else1).pre.1 (stands at-else1) in
-    ((right-t at-else2, at-blank-servers.blank-servers.ensures), (rw c.next-line.ensures n, rw c.next-line.ensures r))
+    ((right-t at-else2, at-blank-servers.blank_servers.ensures), (rw c.next_line.ensures n, rw c.next_line.ensures r))
 
-returns-4 : tie.Need-returns-4
+returns-4 : tie.Need-returns
 returns-4 c =
     let at-rows-from = c.before.before.before.before in
     let at-blank-servers = at-rows-from.before.before.before.before.before.before in
@@ -108,9 +108,9 @@ returns-4 c =
     let at-l = l-from-else2 at-else2 in
     let at-else1 = else1-from-l at-l in
     lists-rows (sheet at-else1) (given at-else1) (stands at-else1) (line at-l) (first-is at-l)
-    (right-t at-else2) (rw at-rows-from.before.next-line.ensures at at-rows-from.rows-from.ensures)
+    (right-t at-else2) (rw at-rows-from.before.next_line.ensures at at-rows-from.rows_from.ensures)
 
-pub list-spec : {M : Type 1} → statement M
-list-spec = tie.close (tie.spec returns (λ c κs. search rules) (λ c. search rules) (λ c. search rules) put-last-requires
+pub list_spec : {M : Type 1} → statement M
+list_spec = tie.close (tie.spec returns (λ c κs. search rules) (λ c. search rules) (λ c. search rules) put-last-requires
     (λ c. search rules) returns-2 (λ c. search rules) (λ c κs. search rules) put-last-requires-2 (λ c. search rules) returns-3
     blank-servers-requires (λ c κs. search rules) rows-from-requires (λ c. search rules) (λ c. search rules) returns-4)

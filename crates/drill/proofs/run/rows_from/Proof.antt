@@ -15,19 +15,19 @@ use borrow.Author.Rules.{rules}
 use Rattle.drill.proofs.run.rows_from.Statement.{statement}
 use Rattle.drill.proofs.run.rows_from.Tie as tie
 
-abbrev invariant-loop : tie.invariant-loop
+abbrev invariant-loop : tie.invariant-loop-at
 invariant-loop sheet out₀ work₀ t from at₀ n₀ begun₀ done₀ out work at n begun done = Going t sheet out₀ from out work at n begun done
 
-abbrev decreases-loop : tie.decreases-loop
+abbrev decreases-loop : tie.decreases-loop-at
 decreases-loop sheet out₀ work₀ t from at₀ n₀ begun₀ done₀ out work at n begun done = length sheet - at
 
 -- ---- before a line
 
 -- Places far back, each named once: the place, and from where it is seen.
-abbrev start-from-loop : tie.At-loop invariant-loop decreases-loop → tie.Start invariant-loop decreases-loop
+abbrev start-from-loop : tie.At-loop-at invariant-loop decreases-loop → tie.Start invariant-loop decreases-loop
 start-from-loop c = c.before.before.before.before
 
-module _ (c : tie.At-loop invariant-loop decreases-loop) where
+module _ (c : tie.At-loop-at invariant-loop decreases-loop) where
   abbrev t : ℕ
   t = (start-from-loop c).args.t
 
@@ -41,25 +41,25 @@ module _ (c : tie.At-loop invariant-loop decreases-loop) where
   start = (start-from-loop c).args.from
 
   abbrev out : List ℕ
-  out = c.loop.out
+  out = c.loop-at.out
 
   abbrev work : List ℕ
-  work = c.loop.work
+  work = c.loop-at.work
 
   abbrev place : ℕ
-  place = c.loop.at
+  place = c.loop-at.at
 
   abbrev n : ℕ
-  n = c.loop.n
+  n = c.loop-at.n
 
   abbrev begun : ℕ
-  begun = c.loop.begun
+  begun = c.loop-at.begun
 
   abbrev done : ℕ
-  done = c.loop.done
+  done = c.loop-at.done
 
   going : Going t sheet given start out work place n begun done
-  going = c.loop.invariant
+  going = c.loop-at.invariant
 
   size_is : length out ≡ length given
   size_is = going-size t sheet given start out work place n begun done going
@@ -69,13 +69,13 @@ module _ (c : tie.At-loop invariant-loop decreases-loop) where
 
 -- ---- at a line
 
-abbrev line-from-enum-told : tie.After-enum-told invariant-loop decreases-loop → tie.In-loop invariant-loop decreases-loop
+abbrev line-from-enum-told : tie.In_default invariant-loop decreases-loop → tie.In-loop-at invariant-loop decreases-loop
 line-from-enum-told c = c.before.before.before
 
-abbrev line-from-l : tie.After-l invariant-loop decreases-loop → tie.In-loop invariant-loop decreases-loop
+abbrev line-from-l : tie.In-Line-2 invariant-loop decreases-loop → tie.In-loop-at invariant-loop decreases-loop
 line-from-l c = c.before.before.before
 
-module _ (c : tie.In-loop invariant-loop decreases-loop) where
+module _ (c : tie.In-loop-at invariant-loop decreases-loop) where
   abbrev line : Text
   line = line_at (sheet c.before) (place c.before)
 
@@ -87,33 +87,33 @@ module _ (c : tie.In-loop invariant-loop decreases-loop) where
       let p = c.before in
       row_room (t p) (sheet p) (given p) (start p) (out p) (work p) (place p) (n p) (begun p) (done p) (going p) stands
 
-step_is : (c : tie.After-l invariant-loop decreases-loop) → step_line_def (n (line-from-l c).before) (line (line-from-l c)) ≡ some c.l.given.0.0
-step_is c = line-told c.before.before.step_line.ensures c.l.given.1
+step_is : (c : tie.In-Line-2 invariant-loop decreases-loop) → step_line_def (n (line-from-l c).before) (line (line-from-l c)) ≡ some c.l-1.given.0.0
+step_is c = line-told c.before.before.step_line.ensures c.l-1.given.1
 
 -- ---- the needs
 
-loop-holds : tie.Need-loop-init invariant-loop decreases-loop
+loop-holds : tie.Need-loop-at-init invariant-loop decreases-loop
 loop-holds c =
     let at-start = c.before.before.before in
     let a = at-start.args in
     going_none a.t a.sheet.now a.out.now a.from a.work.now at-start.requires.0.1 at-start.requires.1.0 at-start.requires.1.1
 
-put-last-requires : tie.Need-put-last-requires invariant-loop decreases-loop
+put-last-requires : tie.Need-put_last-requires invariant-loop decreases-loop
 put-last-requires c κs = room (line-from-enum-told c.before)
 
-abbrev enum-told-from-slice-known3 : tie.After-slice-known3 invariant-loop decreases-loop → tie.After-enum-told invariant-loop decreases-loop
+abbrev enum-told-from-slice-known3 : tie.After-slice_known-in_default-1 invariant-loop decreases-loop → tie.In_default invariant-loop decreases-loop
 enum-told-from-slice-known3 c = c.before.before.before.before
 
-add-result : tie.Need-overflow-add-result invariant-loop decreases-loop
+add-result : tie.Need-overflow_add-result invariant-loop decreases-loop
 add-result c = let h = room (line-from-enum-told (enum-told-from-slice-known3 c)) in omega arith
 
-same_length : tie.Need-same-length invariant-loop decreases-loop
-same_length c = c.before.out.given ∙ size_is (line-from-enum-told (enum-told-from-slice-known3 c)).before
+same_length : tie.Need-shape_of-out-in_default invariant-loop decreases-loop
+same_length c = c.before.out-1.given ∙ size_is (line-from-enum-told (enum-told-from-slice-known3 c)).before
 
-same-length-2 : tie.Need-same-length-2 invariant-loop decreases-loop
+same-length-2 : tie.Need-shape_of-work-in_default invariant-loop decreases-loop
 same-length-2 c = work-is (line-from-enum-told (enum-told-from-slice-known3 c)).before
 
-returns : tie.Need-returns invariant-loop decreases-loop
+returns : tie.Need-returns-in_default invariant-loop decreases-loop
 returns c =
     let at-enum-told = enum-told-from-slice-known3 c in
     let at-line = line-from-enum-told at-enum-told in
@@ -122,7 +122,7 @@ returns c =
     (line-told at-enum-told.before.before.step_line.ensures at-enum-told.enum_told.given.1)
     c.before.before.put_last.ensures
 
-one-line-requires : tie.Need-one-line-requires invariant-loop decreases-loop
+one-line-requires : tie.Need-one_line-begun-requires invariant-loop decreases-loop
 one-line-requires c κs =
     let at-l = c.before.before.before in
     let at-line = line-from-l at-l in
@@ -133,50 +133,50 @@ one-line-requires c κs =
       (line_form (n p) (line at-line) _ (step_is at-l), room at-line),
     )
 
-abbrev l-from-one-line : tie.After-one-line invariant-loop decreases-loop → tie.After-l invariant-loop decreases-loop
+abbrev l-from-one-line : tie.After-one_line-begun invariant-loop decreases-loop → tie.In-Line-2 invariant-loop decreases-loop
 l-from-one-line c = c.before.before.before.before
 
-abbrev one-line-from-next-line : tie.After-next-line invariant-loop decreases-loop → tie.After-one-line invariant-loop decreases-loop
+abbrev one-line-from-next-line : tie.After-next_line-at invariant-loop decreases-loop → tie.After-one_line-begun invariant-loop decreases-loop
 one-line-from-next-line c = c.before.before.before.before.before
 
-add-n : tie.Need-overflow-add-n invariant-loop decreases-loop
+add-n : tie.Need-overflow_add-n invariant-loop decreases-loop
 add-n c =
     let at-l = l-from-one-line (one-line-from-next-line c) in
     let h = line-number _ (line (line-from-l at-l)) _ (step_is at-l) in omega arith
 
-add_done : tie.Need-overflow-add-done invariant-loop decreases-loop
+add_done : tie.Need-overflow_add-done invariant-loop decreases-loop
 add_done c = let h = room (line-from-l (l-from-one-line (one-line-from-next-line c))) in omega arith
 
-loop-less : tie.Need-loop-smaller invariant-loop decreases-loop
+loop-less : tie.Need-loop-at-smaller invariant-loop decreases-loop
 loop-less c =
     let at-line = line-from-l (l-from-one-line (one-line-from-next-line c)) in
     let p = at-line.before in
     let h = next-later (sheet p) (place p) (stands at-line) in
-    let r = c.next-line.ensures in
+    let r = c.next_line-at.ensures in
     omega arith
 
-loop-again : tie.Need-loop-preserved invariant-loop decreases-loop
+loop-again : tie.Need-loop-at-preserved invariant-loop decreases-loop
 loop-again c =
     let at-one-line = one-line-from-next-line c in
     let at-l = l-from-one-line at-one-line in
     let at-line = line-from-l at-l in
     let p = at-line.before in
-    rw c.next-line.ensures
+    rw c.next_line-at.ensures
     (going_more (t p) (sheet p) (given p) (start p) (out p) (work p) (place p) (n p) (begun p) (done p) (going p) (stands at-line)
     (step_is at-l) at-one-line.one_line.ensures)
 
-same-length-3 : tie.Need-same-length-3 invariant-loop decreases-loop
+same-length-3 : tie.Need-shape_of-out invariant-loop decreases-loop
 same-length-3 c = size_is c.before
 
-same-length-4 : tie.Need-same-length-4 invariant-loop decreases-loop
+same-length-4 : tie.Need-shape_of-work invariant-loop decreases-loop
 same-length-4 c = work-is c.before
 
-returns-2 : tie.Need-returns-2 invariant-loop decreases-loop
+returns-2 : tie.Need-returns invariant-loop decreases-loop
 returns-2 c =
     let p = c.before in
     going_all (t p) (sheet p) (given p) (start p) (out p) (work p) (place p) (n p) (begun p) (done p) (going p) (omega arith)
 
-pub rows-from-spec : {M : Type 1} → statement M
-rows-from-spec = tie.close (tie.spec invariant-loop decreases-loop loop-holds (λ c κs. search rules) (λ c. search rules) (λ c. search rules)
+pub rows_from_spec : {M : Type 1} → statement M
+rows_from_spec = tie.close (tie.spec invariant-loop decreases-loop loop-holds (λ c κs. search rules) (λ c. search rules) (λ c. search rules)
     put-last-requires add-result same_length same-length-2 returns one-line-requires (λ c κs. search rules) add-n add_done loop-less loop-again
     same-length-3 same-length-4 returns-2)

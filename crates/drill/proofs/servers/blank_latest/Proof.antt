@@ -12,10 +12,10 @@ returns c =
     let at-server-at = c.before.before.before.before in
     let a = at-server-at.before.before.args in
     blanks_as a.work.now a.server at-server-at.before.before.requires.0
-    at-server-at.before.before.requires.1 (at-server-at.server-at.result + 40960 -
-    at-server-at.server-at.result) at-server-at.server-at.ensures.0 (omega arith)
-    blank_latest_def c.before.work.given.0 c.before.before.blank-latest.ensures
+    at-server-at.before.before.requires.1 (at-server-at.server_at-a.result + 40960 -
+    at-server-at.server_at-a.result) at-server-at.server_at-a.ensures.0 (omega arith)
+    blank_latest_def c.before.work-1.given.0 c.before.before.blank_latest.ensures
 
-pub blank-latest-spec : {M : Type 1} → statement M
-blank-latest-spec = tie.close (tie.spec (λ c κs. search rules) (λ c. search rules) (λ c. search rules) (λ c. search rules) (λ c. search rules)
+pub blank_latest_spec : {M : Type 1} → statement M
+blank_latest_spec = tie.close (tie.spec (λ c κs. search rules) (λ c. search rules) (λ c. search rules) (λ c. search rules) (λ c. search rules)
     (λ c κs. search rules) (λ c. search rules) returns)

@@ -15,19 +15,19 @@ tested : (c : tie.After-outside) → let a = c.before.before.before.args in c.ou
 tested c = c.outside.ensures ∙ ap (λ (n : ℕ). not (within 1 n c.before.before.before.args.server)) c.before.servers.ensures
 
 -- Places far back, each named once: the place, and from where it is seen.
-abbrev start-from-else1 : tie.Else1 → tie.Start
+abbrev start-from-else1 : tie.Else-outside → tie.Start
 start-from-else1 c = c.before.before.before.before
 
-server-in : (c : tie.Else1) → let a = (start-from-else1 c).args in (1 ≤ a.server) × (a.server ≤ (shelf a.t).servers)
-server-in c = let a = (start-from-else1 c).args in is_in 1 (shelf a.t).servers a.server (tested c.before) c.if1.false
+server-in : (c : tie.Else-outside) → let a = (start-from-else1 c).args in (1 ≤ a.server) × (a.server ≤ (shelf a.t).servers)
+server-in c = let a = (start-from-else1 c).args in is_in 1 (shelf a.t).servers a.server (tested c.before) c.if-outside.false
 
-returns : tie.Need-returns
+returns : tie.Need-returns-then-outside
 returns c =
     let a = c.before.before.before.before.before.args in
     blank-refused a.t a.work.now a.server (is-out 1 (shelf a.t).servers a.server (tested c.before.before)
-    c.before.if1.true) c.refused.ensures
+    c.before.if-outside.true) c.refused.ensures
 
-blank-latest-requires : tie.Need-blank-latest-requires
+blank-latest-requires : tie.Need-blank_latest-requires
 blank-latest-requires c κs =
     let at-else1 = c.before in
     let at-start = start-from-else1 at-else1 in
@@ -36,14 +36,14 @@ blank-latest-requires c κs =
       at-start.pre.1,
     )
 
-returns-2 : tie.Need-returns-2
+returns-2 : tie.Need-returns
 returns-2 c =
     let at-else1 = c.before.before.before.before.before in
     let at-start = start-from-else1 at-else1 in
     let a = at-start.args in
     blank_moves a.t a.work.now a.server at-start.pre.0.1
-    (server-in at-else1) c.before.before.before.blank-latest.ensures c.begun.ensures
+    (server-in at-else1) c.before.before.before.blank_latest.ensures c.begun.ensures
 
-pub blank-line-spec : {M : Type 1} → statement M
-blank-line-spec = tie.close (tie.spec (λ c. search rules) (λ c κs. search rules) (λ c κs. search rules) (λ c κs. search rules) returns
+pub blank_line_spec : {M : Type 1} → statement M
+blank_line_spec = tie.close (tie.spec (λ c. search rules) (λ c κs. search rules) (λ c κs. search rules) (λ c κs. search rules) returns
     blank-latest-requires (λ c κs. search rules) (λ c. search rules) returns-2)

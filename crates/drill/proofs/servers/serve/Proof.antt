@@ -15,11 +15,11 @@ returns c =
     let at-server-at = at_take.before.before.before.before in
     let at-start = at-server-at.before.before.before.before in
     let a = at-start.args in
-    serves_as a.work.now a.server at-start.requires.0 at-start.requires.1 (at-server-at.server-at.result + 40960 -
-    at-server-at.server-at.result) at-server-at.server-at.ensures.0 (omega arith)
-    (λ z. server_take real z (replicate 32 a.server) a.packet.now a.out.now) c.before.before.before.work.given.0
+    serves_as a.work.now a.server at-start.requires.0 at-start.requires.1 (at-server-at.server_at-a.result + 40960 -
+    at-server-at.server_at-a.result) at-server-at.server_at-a.ensures.0 (omega arith)
+    (λ z. server_take real z (replicate 32 a.server) a.packet.now a.out.now) c.before.before.before.work-1.given.0
     at_take.take.ensures
 
-pub serve-spec : {M : Type 1} → statement M
-serve-spec = tie.close (tie.spec (λ c κs. search rules) (λ c. search rules) (λ c. search rules) (λ c. search rules) (λ c. search rules)
+pub serve_spec : {M : Type 1} → statement M
+serve_spec = tie.close (tie.spec (λ c κs. search rules) (λ c. search rules) (λ c. search rules) (λ c. search rules) (λ c. search rules)
     (λ c. search rules) (λ c κs. search rules) (λ c. search rules) (λ c. search rules) returns)

@@ -10,5 +10,5 @@ returns : tie.Need-returns
 unfolding server_at_def
 returns c = (refl, omega arith)
 
-pub server-at-spec : {M : Type 1} → statement M
-server-at-spec = tie.close (tie.spec (λ c. search rules) (λ c. search rules) returns)
+pub server_at_spec : {M : Type 1} → statement M
+server_at_spec = tie.close (tie.spec (λ c. search rules) (λ c. search rules) returns)

@@ -8,13 +8,13 @@ use borrow.Author.Rules.{rules}
 use Rattle.drill.proofs.shown.begun.Statement.{statement}
 use Rattle.drill.proofs.shown.begun.Tie as tie
 
-returns : tie.Need-returns
+returns : tie.Need-returns-then-number-eq0
 returns c =
     c.plain.ensures ∙ ap (λ (z : Answer). shown_as z []) c.before.answer.ensures.0
-    ∙ sym (shown-begun c.before.before.before.args.number c.before.before.if1.true)
+    ∙ sym (shown-begun c.before.before.before.args.number c.before.before.if-number-eq0.true)
 
-returns-2 : tie.Need-returns-2
-returns-2 c = c.refused.ensures ∙ sym (shown-refused c.before.before.args.number c.before.if1.false)
+returns-2 : tie.Need-returns
+returns-2 c = c.refused.ensures ∙ sym (shown-refused c.before.before.args.number c.before.if-number-eq0.false)
 
-pub begun-spec : {M : Type 1} → statement M
-begun-spec = tie.close (tie.spec (λ c κs. search rules) (λ c κs. search rules) returns (λ c κs. search rules) returns-2)
+pub begun_spec : {M : Type 1} → statement M
+begun_spec = tie.close (tie.spec (λ c κs. search rules) (λ c κs. search rules) returns (λ c κs. search rules) returns-2)

@@ -12,5 +12,5 @@ returns : tie.Need-returns
 returns c =
     c.plain.ensures ∙ ap (λ (z : Answer). shown_as z []) c.before.answer.ensures.0 ∙ sym (shown-aborted c.before.before.args.a)
 
-pub given-up-spec : {M : Type 1} → statement M
-given-up-spec = tie.close (tie.spec (λ c κs. search rules) (λ c κs. search rules) returns)
+pub given_up_spec : {M : Type 1} → statement M
+given_up_spec = tie.close (tie.spec (λ c κs. search rules) (λ c κs. search rules) returns)

@@ -9,5 +9,5 @@ returns : tie.Need-returns
 unfolding shown_as
 returns c = refl
 
-pub plain-spec : {M : Type 1} → statement M
-plain-spec = tie.close (tie.spec (λ c. search rules) returns)
+pub plain_spec : {M : Type 1} → statement M
+plain_spec = tie.close (tie.spec (λ c. search rules) returns)

@@ -11,5 +11,5 @@ returns : tie.Need-returns
 unfolding shown
 returns c = c.plain.ensures ∙ ap (λ (z : Answer). shown_as z []) c.before.answer.ensures.0
 
-pub refused-spec : {M : Type 1} → statement M
-refused-spec = tie.close (tie.spec (λ c κs. search rules) (λ c κs. search rules) returns)
+pub refused_spec : {M : Type 1} → statement M
+refused_spec = tie.close (tie.spec (λ c κs. search rules) (λ c κs. search rules) returns)

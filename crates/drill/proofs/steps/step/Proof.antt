@@ -6,45 +6,45 @@ use Rattle.drill.proofs.steps.step.Statement.{statement}
 use Rattle.drill.proofs.steps.step.Tie as tie
 
 -- Places far back, each named once: the place, and from where it is seen.
-abbrev start-from-struct-known2 : tie.After-struct-known2 → tie.Start
+abbrev start-from-struct-known2 : tie.After-struct_known-2-1 → tie.Start
 start-from-struct-known2 c = c.before.before.before
 
-cast-write-2 : tie.Need-overflow-cast-write-2
+cast-write-2 : tie.Need-overflow_cast-l-in-1
 cast-write-2 c =
     let at-match = c.before.before.before in
     let at-start = start-from-struct-known2 at-match.before in
-    let h = write-fill at-start.args.l at-match.match.keys1 at-start.pre.1 in omega arith
+    let h = write-fill at-start.args.l at-match.in-1.keys1 at-start.pre.1 in omega arith
 
-returns : tie.Need-returns
+returns : tie.Need-returns-in-1
 returns c =
     let at-match = c.before.before.before.before.before.before in
     let a = (start-from-struct-known2 at-match.before).args in
-    step_write a.t a.begun a.l a.work.now _ at-match.match.keys1 c.before.before.write.ensures
+    step_write a.t a.begun a.l a.work.now _ at-match.in-1.keys1 c.before.before.write.ensures
 
-returns-2 : tie.Need-returns-2
+returns-2 : tie.Need-returns-in-2
 returns-2 c =
     let at-match = c.before.before.before.before in
     let a = (start-from-struct-known2 at-match.before).args in
-    step_read a.t a.begun a.l a.work.now _ at-match.match.keys2 c.before.before.read.ensures
+    step_read a.t a.begun a.l a.work.now _ at-match.in-2.keys2 c.before.before.read-s.ensures
 
-returns-3 : tie.Need-returns-3
+returns-3 : tie.Need-returns-in-3
 returns-3 c =
     let at-match = c.before.before.before.before in
     let a = (start-from-struct-known2 at-match.before).args in
-    step-visit a.t a.begun a.l a.work.now _ at-match.match.keys3 c.before.before.visit-line.ensures
+    step-visit a.t a.begun a.l a.work.now _ at-match.in-3.keys3 c.before.before.visit_line-s.ensures
 
-returns-4 : tie.Need-returns-4
+returns-4 : tie.Need-returns-in-4
 returns-4 c =
     let at-match = c.before.before.before.before in
     let a = (start-from-struct-known2 at-match.before).args in
-    step-blank a.t a.begun a.l a.work.now _ at-match.match.keys4 c.before.before.blank-line.ensures
+    step-blank a.t a.begun a.l a.work.now _ at-match.in-4.keys4 c.before.before.blank_line-s.ensures
 
-returns-5 : tie.Need-returns-5
+returns-5 : tie.Need-returns-in_default
 returns-5 c =
     let at-match = c.before.before.before.before in
     let a = (start-from-struct-known2 at-match.before).args in
-    let none = at-match.match.rest in
-    step-stop a.t a.begun a.l a.work.now _ none.0.0.0.1 none.0.0.1 none.0.1 none.1 c.before.before.stop.ensures
+    let none = at-match.in_default.rest in
+    step-stop a.t a.begun a.l a.work.now _ none.0.0.0.1 none.0.0.1 none.0.1 none.1 c.before.before.stop-s.ensures
 
 pub step_spec : {M : Type 1} → statement M
 step_spec = tie.close (tie.spec (λ c. search rules) (λ c. search rules) (λ c. search rules) cast-write-2 (λ c κs. search rules) (λ c. search rules)

@@ -9,5 +9,5 @@ returns : tie.Need-returns
 unfolding drill_shelf up_to
 returns c = refl
 
-pub server-keys-spec : {M : Type 1} → statement M
-server-keys-spec = tie.close (tie.spec returns)
+pub server_keys_spec : {M : Type 1} → statement M
+server_keys_spec = tie.close (tie.spec returns)

@@ -5,31 +5,31 @@ use Rattle.drill.proofs.visits.visit_line.Statement.{statement}
 use Rattle.drill.proofs.visits.visit_line.Tie as tie
 
 -- Places far back, each named once: the place, and from where it is seen.
-abbrev start-from-then1 : tie.Then1 → tie.Start
+abbrev start-from-then1 : tie.Then-n-eq0 → tie.Start
 start-from-then1 c = c.before.before.before.before
 
 visit-requires : tie.Need-visit-requires
 visit-requires c κs =
     let at-then1 = c.before in
     let at-start = start-from-then1 at-then1 in
-    let r = c.before.before.visit-refusal.ensures in (
+    let r = c.before.before.visit_refusal-n.ensures in (
       (
         at-start.pre.0.1,
         at-start.pre.1,
       ),
-      (r.readers c.before.if1.true, r.servers c.before.if1.true),
+      (r.readers c.before.if-n-eq0.true, r.servers c.before.if-n-eq0.true),
     )
 
-returns : tie.Need-returns
+returns : tie.Need-returns-then-n-eq0
 returns c =
     let at-then1 = c.before.before.before.before in
     let a = (start-from-then1 at-then1).args in visit_passes a.t a.work.now a.client
-    a.server at-then1.before.visit-refusal.ensures at-then1.if1.true c.before.before.visit.ensures
+    a.server at-then1.before.visit_refusal-n.ensures at-then1.if-n-eq0.true c.before.before.visit.ensures
 
-returns-2 : tie.Need-returns-2
+returns-2 : tie.Need-returns
 returns-2 c = let a = c.before.before.before.before.before.args in visit-refused a.t a.work.now a.client a.server
-    c.before.before.visit-refusal.result c.before.before.visit-refusal.ensures c.before.if1.false c.refused.ensures
+    c.before.before.visit_refusal-n.result c.before.before.visit_refusal-n.ensures c.before.if-n-eq0.false c.refused.ensures
 
-pub visit-line-spec : {M : Type 1} → statement M
-visit-line-spec = tie.close (tie.spec (λ c κs. search rules) visit-requires (λ c. search rules) returns (λ c κs. search rules) (λ c. search rules)
+pub visit_line_spec : {M : Type 1} → statement M
+visit_line_spec = tie.close (tie.spec (λ c κs. search rules) visit-requires (λ c. search rules) returns (λ c κs. search rules) (λ c. search rules)
     returns-2)

@@ -7,14 +7,14 @@ use Rattle.embed.specs.Packing.{packed_answer}
 use Rattle.embed.proofs.clients.pack_answer.Statement.{statement}
 use Rattle.embed.proofs.clients.pack_answer.Tie as tie
 
-returns : tie.Need-returns
+returns : tie.Need-returns-then-result-ge-REFUSALS
 unfolding packed_answer
-returns c = rw (le-leb refusals c.before.before.args.a.result c.before.if1.true) c.pack.ensures
+returns c = rw (le-leb refusals c.before.before.args.a.result c.before.if-result-ge-REFUSALS.true) c.pack.ensures
 
-returns-2 : tie.Need-returns-2
+returns-2 : tie.Need-returns
 unfolding packed_answer
-returns-2 c = rw (lt-leb refusals c.before.before.before.args.a.result (omega (arith, c.before.before.if1.false))) c.pack2.ensures
+returns-2 c = rw (lt-leb refusals c.before.before.before.args.a.result (omega (arith, c.before.before.if-result-ge-REFUSALS.false))) c.pack-2.ensures
 
-pub pack-answer-spec : {M : Type 1} → statement M
-pack-answer-spec = tie.close (tie.spec (λ c. search rules) (λ c κs. search rules) returns (λ c. search rules) (λ c. search rules) (λ c. search rules)
+pub pack_answer_spec : {M : Type 1} → statement M
+pack_answer_spec = tie.close (tie.spec (λ c. search rules) (λ c κs. search rules) returns (λ c. search rules) (λ c. search rules) (λ c. search rules)
     (λ c κs. search rules) returns-2)

@@ -15,5 +15,5 @@ returns c =
     let m : length a.call.tally.marks ≡ most_servers = search rules in
     c.before.before.put.ensures ∙ put_first a.state.now at-start.requires a.call m
 
-pub put-call-spec : {M : Type 1} → statement M
-put-call-spec = tie.close (tie.spec (λ c κs. search rules) (λ c. search rules) returns)
+pub put_call_spec : {M : Type 1} → statement M
+put_call_spec = tie.close (tie.spec (λ c κs. search rules) (λ c. search rules) returns)

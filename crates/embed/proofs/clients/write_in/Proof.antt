@@ -18,12 +18,12 @@ returns c =
     let a = at-start.args in
     let d = a.state.now in
     let e = core_write_lem d at-start.requires a.t a.client a.content.now a.t5 in
-    began d at-start.requires (begin_write_def a.t a.client (call_at d) (kept_of_def d) a.content.now a.t5) begun.begin-write-in.result
-    begun.begin-write-in.new.1.0 c.before.before.before.put-call.new.0
-    (begun.begin-write-in.ensures.0 ∙ rw at-begin-write-in.before.before.before.read.ensures
-    (ap started e)) (begun.begin-write-in.ensures.1 ∙ rw
-    at-begin-write-in.before.before.before.read.ensures (ap (λ (b : Begun). b.kept) e)) c.before.before.before.put-call.ensures
+    began d at-start.requires (begin_write_def a.t a.client (call_at d) (kept_of_def d) a.content.now a.t5) begun.begin_write_in-begun.result
+    begun.begin_write_in-begun.new.1.0 c.before.before.before.put_call.new.0
+    (begun.begin_write_in-begun.ensures.0 ∙ rw at-begin-write-in.before.before.before.read-call.ensures
+    (ap started e)) (begun.begin_write_in-begun.ensures.1 ∙ rw
+    at-begin-write-in.before.before.before.read-call.ensures (ap (λ (b : Begun). b.kept) e)) c.before.before.before.put_call.ensures
 
-pub write-in-spec : {M : Type 1} → statement M
-write-in-spec = tie.close (tie.spec (λ c κs. search rules) (λ c. search rules) (λ c. search rules) (λ c. search rules) (λ c κs. search rules)
+pub write_in_spec : {M : Type 1} → statement M
+write_in_spec = tie.close (tie.spec (λ c κs. search rules) (λ c. search rules) (λ c. search rules) (λ c. search rules) (λ c κs. search rules)
     (λ c κs. search rules) (λ c. search rules) returns)

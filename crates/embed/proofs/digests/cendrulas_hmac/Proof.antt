@@ -13,23 +13,23 @@ use Rattle.embed.proofs.Laws.{refused_with_lem, carried-out, all_of, keyed_fine}
 use Rattle.embed.proofs.digests.cendrulas_hmac.Statement.{statement}
 use Rattle.embed.proofs.digests.cendrulas_hmac.Tie as tie
 
-returns : tie.Need-returns
+returns : tie.Need-returns-then-refusal-ne0
 returns c =
     let asked = c.before.before in
     let a = asked.before.before.before.before.args in
-    refused_with_lem asked.keyed-refusal.result _ _ (hmac_sha256 a.key.now a.message.now) a.out.now
-    (sym asked.keyed-refusal.ensures) c.before.if1.true c.pack.ensures
+    refused_with_lem asked.keyed_refusal-refusal.result _ _ (hmac_sha256 a.key.now a.message.now) a.out.now
+    (sym asked.keyed_refusal-refusal.ensures) c.before.if-refusal-ne0.true c.pack.ensures
 
 -- Places far back, each named once: the place, and from where it is seen.
-abbrev start-from-else1 : tie.Else1 → tie.Start
+abbrev start-from-else1 : tie.Else-refusal-ne0 → tie.Start
 start-from-else1 c = c.before.before.before.before.before
 
 -- past the test the key has its size, and the output room
-fine : (c : tie.Else1)
+fine : (c : tie.Else-refusal-ne0)
     → (length (start-from-else1 c).args.key.now ≡ key_size) × (digest_size ≤ length (start-from-else1 c).args.out.now)
 fine c =
     let a = (start-from-else1 c).args in
-    keyed_fine digest_size a.key.now (length a.out.now) (sym c.before.keyed-refusal.ensures ∙ c.if1.false)
+    keyed_fine digest_size a.key.now (length a.out.now) (sym c.before.keyed_refusal-refusal.ensures ∙ c.if-refusal-ne0.false)
 
 array-requires : tie.Need-array-requires
 array-requires c κs = (fine c).0
@@ -37,7 +37,7 @@ array-requires c κs = (fine c).0
 put-requires : tie.Need-put-requires
 put-requires c κs = let past-test = c.before.before.before.before in (search rules, (fine past-test).1)
 
-returns-2 : tie.Need-returns-2
+returns-2 : tie.Need-returns
 returns-2 c =
     let past-put = c.before.before.before in
     let past-hmac = past-put.before.before.before in
@@ -47,14 +47,14 @@ returns-2 c =
     let key = a.key.now in
     let message = a.message.now in
     let long = hmac-length key message in
-    let made = past-hmac.hmac.ensures ∙ ap (λ (k : List ℕ). hmac_sha256 k message) past-array.array.ensures in
-    carried-out digest_size _ _ _ past-hmac.hmac.result a.out.now _
-    (sym past-test.before.keyed-refusal.ensures ∙ past-test.if1.false)
-    c.pack2.ensures
-    (all_of digest_size past-hmac.hmac.result (hmac_sha256 key message) made long)
+    let made = past-hmac.hmac-whole.ensures ∙ ap (λ (k : List ℕ). hmac_sha256 k message) past-array.array.ensures in
+    carried-out digest_size _ _ _ past-hmac.hmac-whole.result a.out.now _
+    (sym past-test.before.keyed_refusal-refusal.ensures ∙ past-test.if-refusal-ne0.false)
+    c.pack-2.ensures
+    (all_of digest_size past-hmac.hmac-whole.result (hmac_sha256 key message) made long)
     long
     past-put.put.ensures
 
-pub cendrulas-hmac-spec : {M : Type 1} → statement M
-cendrulas-hmac-spec = tie.close (tie.spec (λ c κs. search rules) (λ c κs. search rules) returns array-requires (λ c κs. search rules) (λ c. search rules)
+pub cendrulas_hmac_spec : {M : Type 1} → statement M
+cendrulas_hmac_spec = tie.close (tie.spec (λ c κs. search rules) (λ c κs. search rules) returns array-requires (λ c κs. search rules) (λ c. search rules)
     put-requires (λ c. search rules) (λ c κs. search rules) (λ c. search rules) returns-2)

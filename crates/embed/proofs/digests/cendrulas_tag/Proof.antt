@@ -12,23 +12,23 @@ use Rattle.embed.proofs.Laws.{refused_with_lem, carried-out, all_of, keyed_fine}
 use Rattle.embed.proofs.digests.cendrulas_tag.Statement.{statement}
 use Rattle.embed.proofs.digests.cendrulas_tag.Tie as tie
 
-returns : tie.Need-returns
+returns : tie.Need-returns-then-refusal-ne0
 returns c =
     let asked = c.before.before in
     let a = asked.before.before.before.before.args in
-    refused_with_lem asked.keyed-refusal.result _ _ (tag_of a.key.now a.message.now) a.out.now
-    (sym asked.keyed-refusal.ensures) c.before.if1.true c.pack.ensures
+    refused_with_lem asked.keyed_refusal-refusal.result _ _ (tag_of a.key.now a.message.now) a.out.now
+    (sym asked.keyed_refusal-refusal.ensures) c.before.if-refusal-ne0.true c.pack.ensures
 
 -- Places far back, each named once: the place, and from where it is seen.
-abbrev start-from-else1 : tie.Else1 → tie.Start
+abbrev start-from-else1 : tie.Else-refusal-ne0 → tie.Start
 start-from-else1 c = c.before.before.before.before.before
 
 -- past the test the key has its size, and the output room
-fine : (c : tie.Else1)
+fine : (c : tie.Else-refusal-ne0)
     → (length (start-from-else1 c).args.key.now ≡ key_size) × (tag_size ≤ length (start-from-else1 c).args.out.now)
 fine c =
     let a = (start-from-else1 c).args in
-    keyed_fine tag_size a.key.now (length a.out.now) (sym c.before.keyed-refusal.ensures ∙ c.if1.false)
+    keyed_fine tag_size a.key.now (length a.out.now) (sym c.before.keyed_refusal-refusal.ensures ∙ c.if-refusal-ne0.false)
 
 array-requires : tie.Need-array-requires
 array-requires c κs = (fine c).0
@@ -36,7 +36,7 @@ array-requires c κs = (fine c).0
 put-requires : tie.Need-put-requires
 put-requires c κs = let past-test = c.before.before.before.before in (search rules, (fine past-test).1)
 
-returns-2 : tie.Need-returns-2
+returns-2 : tie.Need-returns
 returns-2 c =
     let past-put = c.before.before.before in
     let past-tag = past-put.before.before.before in
@@ -46,14 +46,14 @@ returns-2 c =
     let key = a.key.now in
     let message = a.message.now in
     let long = tag-length key message in
-    let made = past-tag.tag.ensures ∙ ap (λ (k : List ℕ). tag_of k message) past-array.array.ensures in
-    carried-out tag_size _ _ _ past-tag.tag.result a.out.now _
-    (sym past-test.before.keyed-refusal.ensures ∙ past-test.if1.false)
-    c.pack2.ensures
-    (all_of tag_size past-tag.tag.result (tag_of key message) made long)
+    let made = past-tag.tag-tag.ensures ∙ ap (λ (k : List ℕ). tag_of k message) past-array.array.ensures in
+    carried-out tag_size _ _ _ past-tag.tag-tag.result a.out.now _
+    (sym past-test.before.keyed_refusal-refusal.ensures ∙ past-test.if-refusal-ne0.false)
+    c.pack-2.ensures
+    (all_of tag_size past-tag.tag-tag.result (tag_of key message) made long)
     long
     past-put.put.ensures
 
-pub cendrulas-tag-spec : {M : Type 1} → statement M
-cendrulas-tag-spec = tie.close (tie.spec (λ c κs. search rules) (λ c κs. search rules) returns array-requires (λ c κs. search rules) (λ c. search rules)
+pub cendrulas_tag_spec : {M : Type 1} → statement M
+cendrulas_tag_spec = tie.close (tie.spec (λ c κs. search rules) (λ c κs. search rules) returns array-requires (λ c κs. search rules) (λ c. search rules)
     put-requires (λ c. search rules) (λ c κs. search rules) (λ c. search rules) returns-2)

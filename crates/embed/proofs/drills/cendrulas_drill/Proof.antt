@@ -5,14 +5,14 @@ use Rattle.embed.proofs.Listings.{drill-refused, drill-listed}
 use Rattle.embed.proofs.drills.cendrulas_drill.Statement.{statement}
 use Rattle.embed.proofs.drills.cendrulas_drill.Tie as tie
 
-returns : tie.Need-returns
-returns c = let m = c.before.before.before.before.before.before.before.drill in drill-refused _ m.result m.new.1.0 m.new.1.1.0
-    m.ensures _ c.before.if1.true c.pack.ensures
+returns : tie.Need-returns-then-o-ne0
+returns c = let m = c.before.before.before.before.before.before.before.drill-o in drill-refused _ m.result m.new.1.0 m.new.1.1.0
+    m.ensures _ c.before.if-o-ne0.true c.pack.ensures
 
-returns-2 : tie.Need-returns-2
-returns-2 c = let m = c.before.before.before.before.before.before.drill in drill-listed _ m.result m.new.1.0 m.new.1.1.0
-    m.ensures c.if1.false
+returns-2 : tie.Need-returns
+returns-2 c = let m = c.before.before.before.before.before.before.drill-o in drill-listed _ m.result m.new.1.0 m.new.1.1.0
+    m.ensures c.if-o-ne0.false
 
-pub cendrulas-drill-spec : {M : Type 1} → statement M
-cendrulas-drill-spec = tie.close (tie.spec (λ c κs. search rules) (λ c κs. search rules) (λ c. search rules) (λ c. search rules) returns
+pub cendrulas_drill_spec : {M : Type 1} → statement M
+cendrulas_drill_spec = tie.close (tie.spec (λ c κs. search rules) (λ c κs. search rules) (λ c. search rules) (λ c. search rules) returns
     (λ c. search rules) (λ c. search rules) returns-2)

@@ -11,7 +11,7 @@ use Rattle.embed.proofs.pack.array.Tie as tie
 returns : tie.Need-returns
 returns c =
     let s = c.before.before.args.src.now in
-    c.nonce-of.ensures ∙ padded-whole nonce_size s (omega arith) ∙ take_all nonce_size s (omega arith)
+    c.nonce_of.ensures ∙ padded-whole nonce_size s (omega arith) ∙ take_all nonce_size s (omega arith)
 
-pub array-spec : {M : Type 1} → statement M
-array-spec = tie.close (tie.spec (λ c κs. search rules) returns)
+pub array_spec : {M : Type 1} → statement M
+array_spec = tie.close (tie.spec (λ c κs. search rules) returns)

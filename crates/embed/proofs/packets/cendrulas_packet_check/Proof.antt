@@ -7,19 +7,19 @@ use Rattle.embed.proofs.Layouts.{layout_broken, layout-kept}
 use Rattle.embed.proofs.packets.cendrulas_packet_check.Statement.{statement}
 use Rattle.embed.proofs.packets.cendrulas_packet_check.Tie as tie
 
-returns : tie.Need-returns
+returns : tie.Need-returns-in_default
 returns c =
     let s = c.before.before.before.before.before.args.packet.now in
-    c.pack.ensures ∙ ap (λ (n : ℕ). packed n 0 0 0) (sym (layout_broken s (rw c.before.enum-told2.given.1 at
-    c.before.before.before.read-packet.ensures)))
+    c.pack.ensures ∙ ap (λ (n : ℕ). packed n 0 0 0) (sym (layout_broken s (rw c.before.enum_told-in_default-1.given.1 at
+    c.before.before.before.read_packet.ensures)))
 
-returns-2 : tie.Need-returns-2
+returns-2 : tie.Need-returns
 returns-2 c =
     let at-read-packet = c.before.before.before in
     let s = at-read-packet.before.before.args.packet.now in
-    c.pack2.ensures ∙ ap (λ (n : ℕ). packed n 0 0 0) (sym (layout-kept s _ (rw c.before.enum_told.given.1 at
-    at-read-packet.read-packet.ensures).packet))
+    c.pack-2.ensures ∙ ap (λ (n : ℕ). packed n 0 0 0) (sym (layout-kept s _ (rw c.before.enum_told-1.given.1 at
+    at-read-packet.read_packet.ensures).packet))
 
-pub cendrulas-packet-check-spec : {M : Type 1} → statement M
-cendrulas-packet-check-spec = tie.close (tie.spec (λ c κs. search rules) (λ c. search rules) (λ c. search rules) (λ c κs. search rules) returns
+pub cendrulas_packet_check_spec : {M : Type 1} → statement M
+cendrulas_packet_check_spec = tie.close (tie.spec (λ c κs. search rules) (λ c. search rules) (λ c. search rules) (λ c κs. search rules) returns
     (λ c κs. search rules) returns-2)

@@ -8,35 +8,35 @@ use Rattle.embed.proofs.Planned.{plan_no-room, plan-refusal, plan-given}
 use Rattle.embed.proofs.plans.cendrulas_plan.Statement.{statement}
 use Rattle.embed.proofs.plans.cendrulas_plan.Tie as tie
 
-returns : tie.Need-returns
+returns : tie.Need-returns-then-numbers-lt-NUMBERS
 returns c =
     let a = c.before.before.before.args in
     refused 254 _ _ (planned_numbers a.t a.length a.readers a.stores) a.numbers.now
-    (plan_no-room a.t a.length a.readers a.stores a.numbers.now c.before.if1.true)
+    (plan_no-room a.t a.length a.readers a.stores a.numbers.now c.before.if-numbers-lt-NUMBERS.true)
     c.pack.ensures
 
-returns-2 : tie.Need-returns-2
+returns-2 : tie.Need-returns-then-number-ne0
 returns-2 c =
     let past = c.before.before in
     let a = past.before.before.before.args in
-    let plan = past.plan.result in
+    let plan = past.plan-plan.result in
     refused_with_lem plan.number _ _ (planned_numbers a.t a.length a.readers a.stores) a.numbers.now
-    (plan-refusal a.t a.length a.readers a.stores plan a.numbers.now past.plan.ensures (omega (arith, past.before.if1.false)))
-    c.before.if2.true
-    c.pack2.ensures
+    (plan-refusal a.t a.length a.readers a.stores plan a.numbers.now past.plan-plan.ensures (omega (arith, past.before.if-numbers-lt-NUMBERS.false)))
+    c.before.if-number-ne0.true
+    c.pack-then-number-ne0.ensures
 
-returns-3 : tie.Need-returns-3
+returns-3 : tie.Need-returns
 returns-3 c =
     let past-put = c.before.before.before in
     let tested = past-put.before.before in
     let past = tested.before in
     let a = past.before.before.before.args in
-    plan-given a.t a.length a.readers a.stores past.plan.result a.numbers.now past.plan.ensures
-    (omega (arith, past.before.if1.false))
-    tested.if2.false
-    c.pack3.ensures
-    past-put.put-plan.ensures
+    plan-given a.t a.length a.readers a.stores past.plan-plan.result a.numbers.now past.plan-plan.ensures
+    (omega (arith, past.before.if-numbers-lt-NUMBERS.false))
+    tested.if-number-ne0.false
+    c.pack-2.ensures
+    past-put.put_plan.ensures
 
-pub cendrulas-plan-spec : {M : Type 1} → statement M
-cendrulas-plan-spec = tie.close (tie.spec (λ c κs. search rules) returns (λ c κs. search rules) (λ c κs. search rules) returns-2
+pub cendrulas_plan_spec : {M : Type 1} → statement M
+cendrulas_plan_spec = tie.close (tie.spec (λ c κs. search rules) returns (λ c κs. search rules) (λ c κs. search rules) returns-2
     (λ c κs. search rules) (λ c. search rules) (λ c κs. search rules) (λ c. search rules) returns-3)

@@ -11,43 +11,43 @@ use Rattle.format.proofs.Puts.{wrote-copy}
 use Rattle.embed.proofs.plans.put_at.Statement.{statement}
 use Rattle.embed.proofs.plans.put_at.Tie as tie
 
-abbrev invariant-loop : tie.invariant-loop
+abbrev invariant-loop : tie.invariant-loop-i
 invariant-loop dst₀ at src i₀ dst i = (i ≤ length src) × (dst ≡ paste dst₀ at src i)
 
-abbrev decreases-loop : tie.decreases-loop
+abbrev decreases-loop : tie.decreases-loop-i
 decreases-loop dst₀ at src i₀ dst i = length src - i
 
-loop-holds : tie.Need-loop-init invariant-loop decreases-loop
+loop-holds : tie.Need-loop-i-init invariant-loop decreases-loop
 loop-holds c = (omega arith, paste-zero c.args.dst.now c.args.at c.args.src.now)
 
-slice-write-dst : tie.Need-slice-write-dst invariant-loop decreases-loop
+slice-write-dst : tie.Need-bounds-dst-at invariant-loop decreases-loop
 slice-write-dst c = omega (
   arith,
-  ap length c.before.before.loop.invariant.1,
+  ap length c.before.before.loop-i.invariant.1,
   length-paste c.before.before.before.args.dst.now
-      c.before.before.before.args.at c.before.before.before.args.src.now c.before.before.loop.i (omega arith) (omega arith),
+      c.before.before.before.args.at c.before.before.before.args.src.now c.before.before.loop-i.i (omega arith) (omega arith),
 )
 
-loop-again : tie.Need-loop-preserved invariant-loop decreases-loop
+loop-again : tie.Need-loop-i-preserved invariant-loop decreases-loop
 loop-again c =
     let a = c.before.before.before.args in
-    let i = c.before.before.loop.i in (
+    let i = c.before.before.loop-i.i in (
       omega arith,
-      ap (λ (z : List ℕ). set z (a.at + i) (get_or a.src.now i 0)) c.before.before.loop.invariant.1 ∙ paste-suc a.dst.now a.at
+      ap (λ (z : List ℕ). set z (a.at + i) (get_or a.src.now i 0)) c.before.before.loop-i.invariant.1 ∙ paste-suc a.dst.now a.at
           a.src.now i 0 (omega arith) (omega arith)
           ∙ ap (paste a.dst.now a.at a.src.now) (sym (add-one i)),
     )
 
-same_length : tie.Need-same-length invariant-loop decreases-loop
-same_length c = ap length c.before.loop.invariant.1 ∙ length-paste c.before.before.args.dst.now c.before.before.args.at
-    c.before.before.args.src.now c.before.loop.i (omega arith) (omega arith)
+same_length : tie.Need-shape_of-dst invariant-loop decreases-loop
+same_length c = ap length c.before.loop-i.invariant.1 ∙ length-paste c.before.before.args.dst.now c.before.before.args.at
+    c.before.before.args.src.now c.before.loop-i.i (omega arith) (omega arith)
 
 returns : tie.Need-returns invariant-loop decreases-loop
 returns c =
     let a = c.before.before.args in
-    let e : c.before.loop.i ≡ length a.src.now = omega arith in
-    rw (c.before.loop.invariant.1, e) (wrote-copy a.dst.now a.at a.src.now)
+    let e : c.before.loop-i.i ≡ length a.src.now = omega arith in
+    rw (c.before.loop-i.invariant.1, e) (wrote-copy a.dst.now a.at a.src.now)
 
-pub put-at-spec : {M : Type 1} → statement M
-put-at-spec = tie.close (tie.spec invariant-loop decreases-loop loop-holds (λ c. search rules) (λ c. omega arith) (λ c. omega arith) (λ c. search rules)
+pub put_at_spec : {M : Type 1} → statement M
+put_at_spec = tie.close (tie.spec invariant-loop decreases-loop loop-holds (λ c. search rules) (λ c. omega arith) (λ c. omega arith) (λ c. search rules)
     slice-write-dst (λ c. omega arith) (λ c. omega arith) loop-again (λ c. omega arith) same_length returns)

@@ -13,48 +13,48 @@ use Rattle.embed.proofs.RoundTold.{bits_none, bits_more, bits_below, bit-room, p
 use Rattle.embed.proofs.rounds.bits.Statement.{statement}
 use Rattle.embed.proofs.rounds.bits.Tie as tie
 
-abbrev invariant-loop : tie.invariant-loop
+abbrev invariant-loop : tie.invariant-loop-i
 invariant-loop marks sum₀ bit₀ i₀ sum bit i = (i ≤ most_servers) × ((bit ≡ 2 ^ i) × (sum ≡ bits_to i (marked marks)))
 
-abbrev decreases-loop : tie.decreases-loop
+abbrev decreases-loop : tie.decreases-loop-i
 decreases-loop marks sum₀ bit₀ i₀ sum bit i = most_servers - i
 
-loop-holds : tie.Need-loop-init invariant-loop decreases-loop
+loop-holds : tie.Need-loop-i-init invariant-loop decreases-loop
 loop-holds c = (omega arith, (refl, sym (bits_none _)))
 
 -- what is added: the bit, or nothing
-added : (c : tie.After-for-mark invariant-loop decreases-loop) → c.for-mark.result ≤ c.before.before.loop.bit
+added : (c : tie.After-for_mark-sum invariant-loop decreases-loop) → c.for_mark-sum.result ≤ c.before.before.loop-i.bit
 added c =
-    let l = c.before.before.loop in
-    rw c.for-mark.ensures (for-le (not (eqb (get_or c.before.before.before.args.t1 l.i 0) 0)) l.bit)
+    let l = c.before.before.loop-i in
+    rw c.for_mark-sum.ensures (for-le (not (eqb (get_or c.before.before.before.args.t1 l.i 0) 0)) l.bit)
 
-room : (c : tie.After-for-mark invariant-loop decreases-loop) → c.before.before.loop.bit ≤ 8192
-room c = let l = c.before.before.loop in rw l.invariant.1.0 (bit-room l.i l.invariant.0)
+room : (c : tie.After-for_mark-sum invariant-loop decreases-loop) → c.before.before.loop-i.bit ≤ 8192
+room c = let l = c.before.before.loop-i in rw l.invariant.1.0 (bit-room l.i l.invariant.0)
 
-add-sum : tie.Need-overflow-add-sum invariant-loop decreases-loop
+add-sum : tie.Need-overflow_add-sum invariant-loop decreases-loop
 add-sum c =
-    let l = c.before.before.loop in
+    let l = c.before.before.loop-i in
     let a = c.before.before.before.args in
     omega (arith, added c, room c, l.invariant.1.0, l.invariant.1.1, bits_below l.i (marked a.t1))
 
-mul-bit : tie.Need-overflow-mul-bit invariant-loop decreases-loop
+mul-bit : tie.Need-overflow_mul-bit invariant-loop decreases-loop
 mul-bit c = omega (arith, room c)
 
-loop-again : tie.Need-loop-preserved invariant-loop decreases-loop
+loop-again : tie.Need-loop-i-preserved invariant-loop decreases-loop
 loop-again c =
-    let l = c.before.before.loop in
+    let l = c.before.before.loop-i in
     let a = c.before.before.before.args in
-    let more = bits_more a.t1 l.i c.for-mark.result
-    (c.for-mark.ensures ∙ ap (λ (n : ℕ). cond (not (eqb (get_or a.t1 l.i 0) 0)) n 0) l.invariant.1.0) in
+    let more = bits_more a.t1 l.i c.for_mark-sum.result
+    (c.for_mark-sum.ensures ∙ ap (λ (n : ℕ). cond (not (eqb (get_or a.t1 l.i 0) 0)) n 0) l.invariant.1.0) in
     (omega arith, (omega (arith, l.invariant.1.0, power_more l.i), omega (arith, l.invariant.1.1, more)))
 
 returns : tie.Need-returns invariant-loop decreases-loop
 returns c =
-    let l = c.before.loop in
+    let l = c.before.loop-i in
     let e : l.i ≡ most_servers = omega arith in
     l.invariant.1.1 ∙ rw e refl
 
-pub bits-spec : {M : Type 1} → statement M
-bits-spec =
+pub bits_spec : {M : Type 1} → statement M
+bits_spec =
     tie.close (tie.spec invariant-loop decreases-loop loop-holds (λ c. search rules) (λ c κs. search rules) add-sum mul-bit (λ c. search rules) (λ c. search rules)
     loop-again returns)

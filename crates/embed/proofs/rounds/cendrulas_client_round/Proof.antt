@@ -8,19 +8,19 @@ use Rattle.embed.proofs.RoundTold.{round-unsized, round-told}
 use Rattle.embed.proofs.rounds.cendrulas_client_round.Statement.{statement}
 use Rattle.embed.proofs.rounds.cendrulas_client_round.Tie as tie
 
-returns : tie.Need-returns
-returns c = round-unsized c.before.before.before.args.state.now _ c.before.if1.true c.pack.ensures
+returns : tie.Need-returns-then-state-ne-CLIENT
+returns c = round-unsized c.before.before.before.args.state.now _ c.before.if-state-ne-CLIENT.true c.pack.ensures
 
-cast-pack : tie.Need-overflow-cast-pack
-cast-pack c = omega (arith, c.count.ensures, count-le most_servers (marked c.before.before.before.before.before.read.result.tally.marks))
+cast-pack : tie.Need-overflow_cast-count
+cast-pack c = omega (arith, c.count.ensures, count-le most_servers (marked c.before.before.before.before.before.read-call.result.tally.marks))
 
-returns-2 : tie.Need-returns-2
+returns-2 : tie.Need-returns
 returns-2 c =
     let past_read = c.before.before.before.before.before.before in
-    round-told past_read.before.before.before.args.state.now past_read.read.result _ _ _ _ past_read.before.if1.false
-    past_read.read.ensures c.before.before.before.round-of.ensures c.before.before.bits.ensures c.before.count.ensures
-    c.pack2.ensures
+    round-told past_read.before.before.before.args.state.now past_read.read-call.result _ _ _ _ past_read.before.if-state-ne-CLIENT.false
+    past_read.read-call.ensures c.before.before.before.round_of.ensures c.before.before.bits.ensures c.before.count.ensures
+    c.pack-2.ensures
 
-pub cendrulas-client-round-spec : {M : Type 1} → statement M
-cendrulas-client-round-spec = tie.close (tie.spec (λ c κs. search rules) returns (λ c κs. search rules) (λ c κs. search rules) (λ c κs. search rules)
+pub cendrulas_client_round_spec : {M : Type 1} → statement M
+cendrulas_client_round_spec = tie.close (tie.spec (λ c κs. search rules) returns (λ c κs. search rules) (λ c κs. search rules) (λ c κs. search rules)
     (λ c κs. search rules) cast-pack (λ c κs. search rules) returns-2)

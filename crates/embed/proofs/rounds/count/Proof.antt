@@ -14,33 +14,33 @@ use Rattle.embed.proofs.RoundTold.{count_none, count_more, for-le}
 use Rattle.embed.proofs.rounds.count.Statement.{statement}
 use Rattle.embed.proofs.rounds.count.Tie as tie
 
-abbrev invariant-loop : tie.invariant-loop
+abbrev invariant-loop : tie.invariant-loop-i
 invariant-loop marks sum₀ i₀ sum i = (i ≤ most_servers) × (sum ≡ count_to i (marked marks))
 
-abbrev decreases-loop : tie.decreases-loop
+abbrev decreases-loop : tie.decreases-loop-i
 decreases-loop marks sum₀ i₀ sum i = most_servers - i
 
-loop-holds : tie.Need-loop-init invariant-loop decreases-loop
+loop-holds : tie.Need-loop-i-init invariant-loop decreases-loop
 loop-holds c = (omega arith, sym (count_none _))
 
-added : (c : tie.After-for-mark invariant-loop decreases-loop) → c.for-mark.result ≤ 1
-added c = rw c.for-mark.ensures (for-le (not (eqb (get_or c.before.before.before.args.t1 c.before.before.loop.i 0) 0)) 1)
+added : (c : tie.After-for_mark-sum invariant-loop decreases-loop) → c.for_mark-sum.result ≤ 1
+added c = rw c.for_mark-sum.ensures (for-le (not (eqb (get_or c.before.before.before.args.t1 c.before.before.loop-i.i 0) 0)) 1)
 
-add-sum : tie.Need-overflow-add-sum invariant-loop decreases-loop
+add-sum : tie.Need-overflow_add-sum invariant-loop decreases-loop
 add-sum c =
-    let l = c.before.before.loop in
+    let l = c.before.before.loop-i in
     let a = c.before.before.before.args in
     omega (arith, added c, l.invariant.0, l.invariant.1, count-le l.i (marked a.t1))
 
-loop-again : tie.Need-loop-preserved invariant-loop decreases-loop
+loop-again : tie.Need-loop-i-preserved invariant-loop decreases-loop
 loop-again c =
-    let l = c.before.before.loop in
+    let l = c.before.before.loop-i in
     let a = c.before.before.before.args in
-    (omega arith, omega (arith, l.invariant.1, count_more a.t1 l.i c.for-mark.result c.for-mark.ensures))
+    (omega arith, omega (arith, l.invariant.1, count_more a.t1 l.i c.for_mark-sum.result c.for_mark-sum.ensures))
 
 returns : tie.Need-returns invariant-loop decreases-loop
 returns c =
-    let l = c.before.loop in
+    let l = c.before.loop-i in
     let e : l.i ≡ most_servers = omega arith in
     l.invariant.1 ∙ rw e refl
 

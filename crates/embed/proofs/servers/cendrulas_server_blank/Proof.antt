@@ -9,10 +9,10 @@ use Rattle.embed.proofs.servers.cendrulas_server_blank.Tie as tie
 
 returns : tie.Need-returns
 returns c = (
-  c.pack.ensures ∙ ap (λ (b : Blanked). packed b.result.number 0 0 0) c.before.before.before.blank.ensures,
+  c.pack.ensures ∙ ap (λ (b : Blanked). packed b.result.number 0 0 0) c.before.before.before.blank-o.ensures,
   ap
-      (λ (b : Blanked). b.memory) c.before.before.before.blank.ensures,
+      (λ (b : Blanked). b.memory) c.before.before.before.blank-o.ensures,
 )
 
-pub cendrulas-server-blank-spec : {M : Type 1} → statement M
-cendrulas-server-blank-spec = tie.close (tie.spec (λ c κs. search rules) (λ c κs. search rules) (λ c. search rules) returns)
+pub cendrulas_server_blank_spec : {M : Type 1} → statement M
+cendrulas_server_blank_spec = tie.close (tie.spec (λ c κs. search rules) (λ c κs. search rules) (λ c. search rules) returns)

@@ -24,20 +24,20 @@ other-rank p q count latest y e n = rw (ne_eqb q latest (λ h. n (e ∙ h)), and
 as_before : (p q count latest x y : ℕ) → x ≡ p → y ≡ q → x ≡ count → y ≡ latest → ◌≡◌ {A = ℕ} 0 (cond (eqb p count && eqb q latest) 0 1)
 as_before p q count latest x y e f g h = rw (eq-eqb p count (sym e ∙ g), eq-eqb q latest (sym f ∙ h)) refl
 
-returns : tie.Need-returns
+returns : tie.Need-returns-then-byte_at-count
 returns c =
     let a = c.before.before.before.args in
-    other-count _ (rank (stamp_at_def (drop latest_place a.memory.now))) _ a.latest _ c.before.byte_at.ensures c.if1.true
+    other-count _ (rank (stamp_at_def (drop latest_place a.memory.now))) _ a.latest _ c.before.byte_at.ensures c.if-byte_at-count.true
 
-returns-2 : tie.Need-returns-2
+returns-2 : tie.Need-returns-then-latest_rank-latest
 returns-2 c =
     let a = c.before.before.before.before.before.args in
-    other-rank (get_or a.memory.now count_place 0) _ a.count _ _ c.before.latest-rank.ensures c.if2.true
+    other-rank (get_or a.memory.now count_place 0) _ a.count _ _ c.before.latest_rank.ensures c.if-latest_rank-latest.true
 
-returns-3 : tie.Need-returns-3
+returns-3 : tie.Need-returns
 returns-3 c =
-    as_before _ _ _ _ _ _ c.before.before.before.byte_at.ensures c.before.latest-rank.ensures c.before.before.if1.false
-    c.if2.false
+    as_before _ _ _ _ _ _ c.before.before.before.byte_at.ensures c.before.latest_rank.ensures c.before.before.if-byte_at-count.false
+    c.if-latest_rank-latest.false
 
-pub changed-spec : {M : Type 1} → statement M
-changed-spec = tie.close (tie.spec (λ c κs. search rules) returns (λ c κs. search rules) returns-2 returns-3)
+pub changed_spec : {M : Type 1} → statement M
+changed_spec = tie.close (tie.spec (λ c κs. search rules) returns (λ c κs. search rules) returns-2 returns-3)

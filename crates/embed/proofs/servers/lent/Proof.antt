@@ -7,10 +7,10 @@ use borrow.Author.Tests.{le-ltb}
 use Rattle.embed.proofs.servers.lent.Statement.{statement}
 use Rattle.embed.proofs.servers.lent.Tie as tie
 
-returns : tie.Need-returns
+returns : tie.Need-returns-then-room-lt-PACKET_ROOM
 returns c = search rules
 
-returns-2 : tie.Need-returns-2
+returns-2 : tie.Need-returns
 returns-2 c = (omega arith, (le_refl 6400, le-ltb c.before.args.room 6400 (omega arith)))
 
 pub lent_spec : {M : Type 1} → statement M

@@ -7,5 +7,5 @@ use Rattle.embed.proofs.versions.cendrulas_version.Tie as tie
 returns : tie.Need-returns
 returns c = refl
 
-pub cendrulas-version-spec : {M : Type 1} → statement M
-cendrulas-version-spec = tie.close (tie.spec (λ c. search rules) (λ c. search rules) (λ c. search rules) (λ c. search rules) returns)
+pub cendrulas_version_spec : {M : Type 1} → statement M
+cendrulas_version_spec = tie.close (tie.spec (λ c. search rules) (λ c. search rules) (λ c. search rules) (λ c. search rules) returns)

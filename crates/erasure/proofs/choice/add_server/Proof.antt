@@ -14,30 +14,30 @@ use Rattle.erasure.specs.Choice.{among, more}
 use Rattle.erasure.proofs.choice.add_server.Statement.{statement}
 use Rattle.erasure.proofs.choice.add_server.Tie as tie
 
-returns : tie.Need-returns
+returns : tie.Need-returns-then-k-count
 returns c =
     let args = c.before.before.before.args in
-    let e : ltb args.c.count args.k ≡ false = le-ltb args.c.count args.k c.if1.true in (
+    let e : ltb args.c.count args.k ≡ false = le-ltb args.c.count args.k c.if-k-count.true in (
       search rules,
       sym (ap (λ t. more t (among args.s (take args.c.count args.c.servers)) (take args.c.count args.c.at) args.i) e),
       sym (ap (λ t. more t (among args.s (take args.c.count args.c.servers)) (take args.c.count args.c.servers) args.s) e),
     )
 
-returns-2 : tie.Need-returns-2
+returns-2 : tie.Need-returns-then-holds
 returns-2 c =
     let args = c.before.before.before.before.before.args in
     let e : ltb args.c.count args.k ≡ true = lt-ltb args.c.count args.k (search rules) in
-    let f : among args.s (take args.c.count args.c.servers) ≡ true = sym c.before.holds.ensures ∙ c.if2.true in (
+    let f : among args.s (take args.c.count args.c.servers) ≡ true = sym c.before.holds.ensures ∙ c.if-holds.true in (
       search rules,
       sym (ap₂ (λ t s. more t s (take args.c.count args.c.at) args.i) e f),
       sym (ap₂ (λ t s. more t s (take args.c.count args.c.servers) args.s) e f),
     )
 
-returns-3 : tie.Need-returns-3
+returns-3 : tie.Need-returns
 returns-3 c =
     let args = c.before.before.before.before.before.args in
     let e : ltb args.c.count args.k ≡ true = lt-ltb args.c.count args.k (search rules) in
-    let f : among args.s (take args.c.count args.c.servers) ≡ false = sym c.before.holds.ensures ∙ c.if2.false in
+    let f : among args.s (take args.c.count args.c.servers) ≡ false = sym c.before.holds.ensures ∙ c.if-holds.false in
     let la : length args.c.at ≡ width = search rules in
     let lp : length args.c.servers ≡ width = search rules in (
       search rules,
@@ -49,6 +49,6 @@ returns-3 c =
           ∙ sym (ap₂ (λ t s. more t s (take args.c.count args.c.servers) args.s) e f),
     )
 
-pub add-server-spec : {M : Type 1} → statement M
-add-server-spec = tie.close (tie.spec returns (λ c κs. search rules) returns-2 (λ c. search rules) (λ c. search rules) (λ c. search rules)
+pub add_server_spec : {M : Type 1} → statement M
+add_server_spec = tie.close (tie.spec returns (λ c κs. search rules) returns-2 (λ c. search rules) (λ c. search rules) (λ c. search rules)
     (λ c. search rules) returns-3)

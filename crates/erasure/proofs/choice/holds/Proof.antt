@@ -11,34 +11,34 @@ use Rattle.erasure.proofs.Choosing.{among-found, among_none}
 use Rattle.erasure.proofs.choice.holds.Statement.{statement}
 use Rattle.erasure.proofs.choice.holds.Tie as tie
 
-abbrev invariant-loop : tie.invariant-loop
+abbrev invariant-loop : tie.invariant-loop-j
 invariant-loop count s servers j₀ j = (j ≤ count) × ((i : ℕ) → i < j → get_or servers i 0 ≡ s → ⊥)
 
-abbrev decreases-loop : tie.decreases-loop
+abbrev decreases-loop : tie.decreases-loop-j
 decreases-loop count s servers j₀ j = count - j
 
-loop-holds : tie.Need-loop-init invariant-loop decreases-loop
+loop-holds : tie.Need-loop-j-init invariant-loop decreases-loop
 loop-holds c = (search rules, λ i h. absurd (omega arith))
 
-returns : tie.Need-returns invariant-loop decreases-loop
+returns : tie.Need-returns-then-servers-j invariant-loop decreases-loop
 returns c =
     let args = c.before.before.before.args in
-    let j = c.before.before.loop.j in
+    let j = c.before.before.loop-j.j in
     let h : j < args.count = search rules in
     let l : length args.t1 ≡ width = search rules in
     let full : length (take args.count args.t1) ≡ args.count = length-take-le args.count args.t1 (omega arith) in
-    sym (among-found args.s (take args.count args.t1) j (omega arith) (get_or-take args.count args.t1 j 0 h ∙ c.if1.true))
+    sym (among-found args.s (take args.count args.t1) j (omega arith) (get_or-take args.count args.t1 j 0 h ∙ c.if-servers-j.true))
 
-loop-again : tie.Need-loop-preserved invariant-loop decreases-loop
-loop-again c = (search rules, below_more _ _ c.before.before.loop.invariant.1 c.if1.false)
+loop-again : tie.Need-loop-j-preserved invariant-loop decreases-loop
+loop-again c = (search rules, below_more _ _ c.before.before.loop-j.invariant.1 c.if-servers-j.false)
 
-returns-2 : tie.Need-returns-2 invariant-loop decreases-loop
+returns-2 : tie.Need-returns invariant-loop decreases-loop
 returns-2 c =
     let args = c.before.before.args in
     let l : length args.t1 ≡ width = search rules in
     let full : length (take args.count args.t1) ≡ args.count = length-take-le args.count args.t1 (omega arith) in
     sym (among_none args.s (take args.count args.t1)
-    (λ i h e. let b : i < args.count = omega arith in c.before.loop.invariant.1 i (omega arith) (sym (get_or-take args.count args.t1 i 0 b) ∙ e)))
+    (λ i h e. let b : i < args.count = omega arith in c.before.loop-j.invariant.1 i (omega arith) (sym (get_or-take args.count args.t1 i 0 b) ∙ e)))
 
-pub holds-spec : {M : Type 1} → statement M
-holds-spec = tie.close (tie.spec invariant-loop decreases-loop loop-holds (λ c. search rules) returns (λ c. search rules) (λ c. search rules) loop-again returns-2)
+pub holds_spec : {M : Type 1} → statement M
+holds_spec = tie.close (tie.spec invariant-loop decreases-loop loop-holds (λ c. search rules) returns (λ c. search rules) (λ c. search rules) loop-again returns-2)

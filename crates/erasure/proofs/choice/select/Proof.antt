@@ -15,49 +15,49 @@ use Rattle.erasure.proofs.Choosing.{more-map}
 use Rattle.erasure.proofs.choice.select.Statement.{statement}
 use Rattle.erasure.proofs.choice.select.Tie as tie
 
-abbrev invariant-loop : tie.invariant-loop
+abbrev invariant-loop : tie.invariant-loop-i
 invariant-loop servers k c₀ i₀ c i = (i ≤ length servers) × (length (picked k servers i) ≡ c.count) × Holds k servers (picked k servers i) c
 
-abbrev decreases-loop : tie.decreases-loop
+abbrev decreases-loop : tie.decreases-loop-i
 decreases-loop servers k c₀ i₀ c i = length servers - i
 
-loop-holds : tie.Need-loop-init invariant-loop decreases-loop
+loop-holds : tie.Need-loop-i-init invariant-loop decreases-loop
 unfolding picked
 loop-holds c = (search rules, refl, record { room = search rules; places_is = refl; servers_is = refl })
 
-cast-add-server : tie.Need-overflow-cast-add-server invariant-loop decreases-loop
+cast-add-server : tie.Need-overflow_cast-servers invariant-loop decreases-loop
 cast-add-server c =
     let start = c.before.before.before.before in
-    let few = start.requires.1 c.before.before.loop.i (search rules) in
+    let few = start.requires.1 c.before.before.loop-i.i (search rules) in
     omega (arith, few)
 
-add-server-requires : tie.Need-add-server-requires invariant-loop decreases-loop
-add-server-requires c κs = (c.before.before.loop.invariant.2.room, search rules)
+add-server-requires : tie.Need-add_server-d-requires invariant-loop decreases-loop
+add-server-requires c κs = (c.before.before.loop-i.invariant.2.room, search rules)
 
-loop-again : tie.Need-loop-preserved invariant-loop decreases-loop
+loop-again : tie.Need-loop-i-preserved invariant-loop decreases-loop
 unfolding picked
 loop-again c =
-    let at = c.before.before.before.loop in
+    let at = c.before.before.before.loop-i in
     let start = c.before.before.before.before.before in
     let bs = start.args.servers.now in
     let k = start.args.k in
     let ps = picked k bs at.i in
     let g : ℕ → ℕ = λ p. get_or bs p 0 in
     let b = get_or bs at.i 0 in
-    let new = c.add-server.result in
+    let new = c.add_server-d.result in
     let old = at.c in
     let t : ltb old.count k ≡ ltb (length ps) k = ap (λ (n : ℕ). ltb n k) (sym at.invariant.1) in
     let s : among b (take old.count old.servers) ≡ among b (map g ps) = ap (among b) at.invariant.2.servers-is in
     let ps' = more (ltb (length ps) k) (among b (map g ps)) ps at.i in
     let places' : take new.count new.at ≡ ps' =
-    c.add-server.ensures.1 ∙ ap₂ (λ x y. more x y (take old.count old.at) at.i) t s ∙ ap
+    c.add_server-d.ensures.1 ∙ ap₂ (λ x y. more x y (take old.count old.at) at.i) t s ∙ ap
     (λ x. more (ltb (length ps) k) (among b (map g ps)) x at.i) at.invariant.2.places_is in
     let servers' : take new.count new.servers ≡ map g ps' =
-    c.add-server.ensures.2 ∙ ap₂ (λ x y. more x y (take old.count old.servers) b) t s ∙ ap
+    c.add_server-d.ensures.2 ∙ ap₂ (λ x y. more x y (take old.count old.servers) b) t s ∙ ap
     (λ x. more (ltb (length ps) k) (among b (map g ps)) x b) at.invariant.2.servers-is
     ∙ sym (more-map g (ltb (length ps) k) (among b (map g ps)) ps at.i) in
     let la : length new.at ≡ width = search rules in
-    let room' : new.count ≤ k = c.add-server.ensures.0 in
+    let room' : new.count ≤ k = c.add_server-d.ensures.0 in
     let len : length ps' ≡ new.count = ap length (sym places') ∙ length-take-le new.count new.at (omega arith) in (
       search rules,
       subst (λ (n : ℕ). length (picked k bs n) ≡ new.count) (sym (add-one at.i)) len,
@@ -68,12 +68,12 @@ loop-again c =
 returns : tie.Need-returns invariant-loop decreases-loop
 unfolding first_different
 returns c =
-    let at = c.before.loop in
+    let at = c.before.loop-i in
     let start = c.before.before.before in
     let bs = start.args.servers.now in
     subst (λ (n : ℕ). Holds start.args.k bs (picked start.args.k bs n) at.c) (omega arith) at.invariant.2
 
-pub select-spec : {M : Type 1} → statement M
-select-spec = tie.close (tie.spec invariant-loop decreases-loop loop-holds (λ c. search rules) (λ c. search rules) cast-add-server add-server-requires
+pub select_spec : {M : Type 1} → statement M
+select_spec = tie.close (tie.spec invariant-loop decreases-loop loop-holds (λ c. search rules) (λ c. search rules) cast-add-server add-server-requires
     (λ c. search rules) (λ c. search rules)
     loop-again returns)

@@ -20,5 +20,5 @@ returns c =
     let l : length start.args.c.servers ≡ width = search rules in
     taken width start.args.c.count start.args.c.servers (replicate width 0) _ refl start.requires (omega (arith, l, start.requires)) c.before.copy.ensures
 
-pub used-spec : {M : Type 1} → statement M
-used-spec = tie.close (tie.spec (λ c. search rules) (λ c. search rules) copy-requires returns)
+pub used_spec : {M : Type 1} → statement M
+used_spec = tie.close (tie.spec (λ c. search rules) (λ c. search rules) copy-requires returns)

@@ -8,21 +8,21 @@ use borrow.Author.Rules.{rules}
 use Rattle.erasure.proofs.direct.weights.Statement.{statement}
 use Rattle.erasure.proofs.direct.weights.Tie as tie
 
-abbrev invariant-loop : tie.invariant-loop
+abbrev invariant-loop : tie.invariant-loop-j
 invariant-loop points k z out₀ j₀ out j = (j ≤ k) × Filled 0 (λ i v. v ≡ direct_at k points z i) width j out
 
-abbrev decreases-loop : tie.decreases-loop
+abbrev decreases-loop : tie.decreases-loop-j
 decreases-loop points k z out₀ j₀ out j = k - j
 
-loop-holds : tie.Need-loop-init invariant-loop decreases-loop
+loop-holds : tie.Need-loop-j-init invariant-loop decreases-loop
 loop-holds c = (search rules, filled_none refl)
 
-loop-again : tie.Need-loop-preserved invariant-loop decreases-loop
-loop-again c = (search rules, filled_more c.before.before.loop.invariant.1 (omega arith) _ c.weight.ensures)
+loop-again : tie.Need-loop-j-preserved invariant-loop decreases-loop
+loop-again c = (search rules, filled_more c.before.before.loop-j.invariant.1 (omega arith) _ c.weight.ensures)
 
 returns : tie.Need-returns invariant-loop decreases-loop
-returns c j h = c.before.loop.invariant.1.each j (omega arith)
+returns c j h = c.before.loop-j.invariant.1.each j (omega arith)
 
-pub weights-spec : {M : Type 1} → statement M
-weights-spec = tie.close (tie.spec invariant-loop decreases-loop loop-holds (λ c κs. search rules) (λ c. search rules) (λ c. search rules) (λ c. search rules)
+pub weights_spec : {M : Type 1} → statement M
+weights_spec = tie.close (tie.spec invariant-loop decreases-loop loop-holds (λ c κs. search rules) (λ c. search rules) (λ c. search rules) (λ c. search rules)
     loop-again returns)

@@ -15,26 +15,26 @@ use Rattle.erasure.proofs.Standing.{one_missing}
 use Rattle.erasure.proofs.given.all_given.Statement.{statement}
 use Rattle.erasure.proofs.given.all_given.Tie as tie
 
-abbrev invariant-loop : tie.invariant-loop
+abbrev invariant-loop : tie.invariant-loop-i
 invariant-loop k places i₀ i = (i ≤ k) × ((j : ℕ) → j < i → get_or places j 0 < k)
 
-abbrev decreases-loop : tie.decreases-loop
+abbrev decreases-loop : tie.decreases-loop-i
 decreases-loop k places i₀ i = k - i
 
-loop-holds : tie.Need-loop-init invariant-loop decreases-loop
+loop-holds : tie.Need-loop-i-init invariant-loop decreases-loop
 loop-holds c = (search rules, λ j h. absurd (omega arith))
 
-returns : tie.Need-returns invariant-loop decreases-loop
+returns : tie.Need-returns-then-k-places invariant-loop decreases-loop
 returns c =
     let a = c.before.before.before.args in
     let l : length a.t1 ≡ width = search rules in
     let full : length (take a.k a.t1) ≡ a.k = length-take-le a.k a.t1 (omega arith) in
-    sym (one_missing a.k a.t1 full c.before.before.loop.i (omega arith) c.if1.true)
+    sym (one_missing a.k a.t1 full c.before.before.loop-i.i (omega arith) c.if-k-places.true)
 
-loop-again : tie.Need-loop-preserved invariant-loop decreases-loop
-loop-again c = (search rules, below_more _ _ c.before.before.loop.invariant.1 (omega arith))
+loop-again : tie.Need-loop-i-preserved invariant-loop decreases-loop
+loop-again c = (search rules, below_more _ _ c.before.before.loop-i.invariant.1 (omega arith))
 
-returns-2 : tie.Need-returns-2 invariant-loop decreases-loop
+returns-2 : tie.Need-returns invariant-loop decreases-loop
 unfolding all_given_def
 returns-2 c =
     let a = c.before.before.args in
@@ -42,8 +42,8 @@ returns-2 c =
     let full : length (take a.k a.t1) ≡ a.k = length-take-le a.k a.t1 (omega arith) in
     sym (each_holds (λ p. ltb p a.k) (take a.k a.t1)
     (λ i h. let b : i < a.k = omega arith in ap (λ (p : ℕ). ltb p a.k) (get_or-take a.k a.t1 i 0 b)
-    ∙ lt-ltb (get_or a.t1 i 0) a.k (c.before.loop.invariant.1 i (omega arith))))
+    ∙ lt-ltb (get_or a.t1 i 0) a.k (c.before.loop-i.invariant.1 i (omega arith))))
 
-pub all-given-spec : {M : Type 1} → statement M
-all-given-spec = tie.close (tie.spec invariant-loop decreases-loop loop-holds (λ c. search rules) (λ c. search rules) returns (λ c. search rules)
+pub all_given_spec : {M : Type 1} → statement M
+all_given_spec = tie.close (tie.spec invariant-loop decreases-loop loop-holds (λ c. search rules) (λ c. search rules) returns (λ c. search rules)
     (λ c. search rules) loop-again returns-2)

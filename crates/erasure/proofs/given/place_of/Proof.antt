@@ -11,38 +11,38 @@ use Rattle.erasure.proofs.Standing.{place_found, place_none}
 use Rattle.erasure.proofs.given.place_of.Statement.{statement}
 use Rattle.erasure.proofs.given.place_of.Tie as tie
 
-abbrev invariant-loop : tie.invariant-loop
+abbrev invariant-loop : tie.invariant-loop-j
 invariant-loop k z servers j₀ j = (j ≤ k) × ((i : ℕ) → i < j → get_or servers i 0 ≡ z → ⊥)
 
-abbrev decreases-loop : tie.decreases-loop
+abbrev decreases-loop : tie.decreases-loop-j
 decreases-loop k z servers j₀ j = k - j
 
-loop-holds : tie.Need-loop-init invariant-loop decreases-loop
+loop-holds : tie.Need-loop-j-init invariant-loop decreases-loop
 loop-holds c = (search rules, λ i h. absurd (omega arith))
 
-returns : tie.Need-returns invariant-loop decreases-loop
+returns : tie.Need-returns-then-given-j invariant-loop decreases-loop
 returns c =
     let a = c.before.before.before.args in
-    let j = c.before.before.loop.j in
+    let j = c.before.before.loop-j.j in
     let h : j < a.k = search rules in
     let l : length a.t1 ≡ width = search rules in
     let full : length (take a.k a.t1) ≡ a.k = length-take-le a.k a.t1 (omega arith) in
     sym (place_found a.z (take a.k a.t1) j (omega arith)
-    (λ i b e. c.before.before.loop.invariant.1 i b (sym (get_or-take a.k a.t1 i 0 (omega arith)) ∙ e))
-    (get_or-take a.k a.t1 j 0 h ∙ c.if1.true))
+    (λ i b e. c.before.before.loop-j.invariant.1 i b (sym (get_or-take a.k a.t1 i 0 (omega arith)) ∙ e))
+    (get_or-take a.k a.t1 j 0 h ∙ c.if-given-j.true))
 
-loop-again : tie.Need-loop-preserved invariant-loop decreases-loop
-loop-again c = (search rules, below_more _ _ c.before.before.loop.invariant.1 c.if1.false)
+loop-again : tie.Need-loop-j-preserved invariant-loop decreases-loop
+loop-again c = (search rules, below_more _ _ c.before.before.loop-j.invariant.1 c.if-given-j.false)
 
-returns-2 : tie.Need-returns-2 invariant-loop decreases-loop
+returns-2 : tie.Need-returns invariant-loop decreases-loop
 returns-2 c =
     let a = c.before.before.args in
     let l : length a.t1 ≡ width = search rules in
     let full : length (take a.k a.t1) ≡ a.k = length-take-le a.k a.t1 (omega arith) in
     let none = place_none a.z (take a.k a.t1)
-    (λ i h e. let b : i < a.k = omega arith in c.before.loop.invariant.1 i (omega arith) (sym (get_or-take a.k a.t1 i 0 b) ∙ e)) in
+    (λ i h e. let b : i < a.k = omega arith in c.before.loop-j.invariant.1 i (omega arith) (sym (get_or-take a.k a.t1 i 0 b) ∙ e)) in
     sym (none ∙ full)
 
-pub place-of-spec : {M : Type 1} → statement M
-place-of-spec = tie.close (tie.spec invariant-loop decreases-loop loop-holds (λ c. search rules) returns (λ c. search rules) (λ c. search rules)
+pub place_of_spec : {M : Type 1} → statement M
+place_of_spec = tie.close (tie.spec invariant-loop decreases-loop loop-holds (λ c. search rules) returns (λ c. search rules) (λ c. search rules)
     loop-again returns-2)

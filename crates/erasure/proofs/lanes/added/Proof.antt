@@ -14,27 +14,27 @@ use borrow.Author.Rules.{rules}
 use Rattle.erasure.proofs.lanes.added.Statement.{statement}
 use Rattle.erasure.proofs.lanes.added.Tie as tie
 
-abbrev invariant-loop : tie.invariant-loop
+abbrev invariant-loop : tie.invariant-loop-i
 invariant-loop w b sum x m out₀ i₀ out i = (i ≤ lane) × Filled 0 (λ j v. v ≡ bit_xor (get_or sum j 0) (bit_and (get_or x j 0) m)) lane i out
 
-abbrev decreases-loop : tie.decreases-loop
+abbrev decreases-loop : tie.decreases-loop-i
 decreases-loop w b sum x m out₀ i₀ out i = lane - i
 
-loop-holds : tie.Need-loop-init invariant-loop decreases-loop
+loop-holds : tie.Need-loop-i-init invariant-loop decreases-loop
 loop-holds c = (search rules, filled_none refl)
 
-loop-again : tie.Need-loop-preserved invariant-loop decreases-loop
-loop-again c = (search rules, filled_more c.before.loop.invariant.1 (omega arith) _ refl)
+loop-again : tie.Need-loop-i-preserved invariant-loop decreases-loop
+loop-again c = (search rules, filled_more c.before.loop-i.invariant.1 (omega arith) _ refl)
 
 returns : tie.Need-returns invariant-loop decreases-loop
 returns c i h =
     let args = c.before.before.before.args in
     let x = get_or args.t2 i 0 in
     let f : Fits w8 x = search rules in
-    c.before.loop.invariant.1.each i (omega arith)
-    ∙ ap (bit_xor (get_or args.t1 i 0)) (ap (bit_and x) c.before.before.mask.ensures ∙ masked (bit_of args.w args.b) x
+    c.before.loop-i.invariant.1.each i (omega arith)
+    ∙ ap (bit_xor (get_or args.t1 i 0)) (ap (bit_and x) c.before.before.mask-m.ensures ∙ masked (bit_of args.w args.b) x
     (bit-lt args.w args.b) f.fits)
 
-pub added-spec : {M : Type 1} → statement M
-added-spec = tie.close (tie.spec invariant-loop decreases-loop (λ c. search rules) (λ c. search rules) (λ c κs. search rules) loop-holds (λ c. search rules)
+pub added_spec : {M : Type 1} → statement M
+added_spec = tie.close (tie.spec invariant-loop decreases-loop (λ c. search rules) (λ c. search rules) (λ c κs. search rules) loop-holds (λ c. search rules)
     (λ c. search rules) (λ c. search rules) (λ c. search rules) (λ c. search rules) loop-again returns)

@@ -5,11 +5,11 @@ use borrow.Author.Rules.{rules}
 use Rattle.erasure.proofs.lanes.byte_at.Statement.{statement}
 use Rattle.erasure.proofs.lanes.byte_at.Tie as tie
 
-returns : tie.Need-returns
+returns : tie.Need-returns-then-i-src
 returns c = search rules
 
-returns-2 : tie.Need-returns-2
-returns-2 c = sym (get_or-eq_default c.before.args.src.now 0 c.if1.false)
+returns-2 : tie.Need-returns-else-i-src
+returns-2 c = sym (get_or-eq_default c.before.args.src.now 0 c.if-i-src.false)
 
-pub byte-at-spec : {M : Type 1} → statement M
-byte-at-spec = tie.close (tie.spec (λ c. search rules) returns returns-2)
+pub byte_at_spec : {M : Type 1} → statement M
+byte_at_spec = tie.close (tie.spec (λ c. search rules) returns returns-2)

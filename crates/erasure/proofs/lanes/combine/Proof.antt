@@ -12,22 +12,22 @@ use borrow.Author.Rules.{rules}
 use Rattle.erasure.proofs.lanes.combine.Statement.{statement}
 use Rattle.erasure.proofs.lanes.combine.Tie as tie
 
-abbrev invariant-loop : tie.invariant-loop
+abbrev invariant-loop : tie.invariant-loop-q
 invariant-loop weights src out₀ at m starts k lanes₀ q₀ out lanes q = (q ≤ m) × (length lanes ≡ width) ×
     RunWritten out₀ out at q (sum_at k (λ j. get_or weights j 0) src starts)
 
-abbrev decreases-loop : tie.decreases-loop
+abbrev decreases-loop : tie.decreases-loop-q
 decreases-loop weights src out₀ at m starts k lanes₀ q₀ out lanes q = m - q
 
 -- there is a run
-returns : tie.Need-returns invariant-loop decreases-loop
-returns c = absurd (omega (arith, c.if1.true, c.before.before.before.before.requires.3))
+returns : tie.Need-returns-then-k-eq0 invariant-loop decreases-loop
+returns c = absurd (omega (arith, c.if-k-eq0.true, c.before.before.before.before.requires.3))
 
-loop-holds : tie.Need-loop-init invariant-loop decreases-loop
+loop-holds : tie.Need-loop-q-init invariant-loop decreases-loop
 loop-holds c = (search rules, search rules, written_none _ _ _)
 
 -- Places far back, each named once: the place, and from where it is seen.
-abbrev at-loop-from-lanes : tie.After-lanes invariant-loop decreases-loop → tie.At-loop invariant-loop decreases-loop
+abbrev at-loop-from-lanes : tie.After-lanes-1 invariant-loop decreases-loop → tie.At-loop-q invariant-loop decreases-loop
 at-loop-from-lanes c = c.before.before.before
 
 gather-requires : tie.Need-gather-requires invariant-loop decreases-loop
@@ -36,7 +36,7 @@ gather-requires c κs =
     let start = at-loop.before.before.before.before.before in
     (search rules, λ j h. omega (arith, start.pre.1 j h), at-loop.loop.inv.1)
 
-lane-sum-requires : tie.Need-lane-sum-requires invariant-loop decreases-loop
+lane-sum-requires : tie.Need-lane_sum-sum-requires invariant-loop decreases-loop
 lane-sum-requires c κs =
     let at-loop = at-loop-from-lanes c.before.before in
     let src = at-loop.before.before.before.before in
@@ -47,10 +47,10 @@ lane-sum-requires c κs =
           (src.shared-slice-known.given (get_or starts j 0 + (at-loop.loop.q + i))).fits,
     )
 
-abbrev at-loop-from-lane-sum : tie.After-lane-sum invariant-loop decreases-loop → tie.At-loop invariant-loop decreases-loop
+abbrev at-loop-from-lane-sum : tie.After-lane_sum-sum invariant-loop decreases-loop → tie.At-loop-q invariant-loop decreases-loop
 at-loop-from-lane-sum c = at-loop-from-lanes c.before.before.before
 
-add-store : tie.Need-overflow-add-store invariant-loop decreases-loop
+add-store : tie.Need-overflow_add-at invariant-loop decreases-loop
 add-store c =
     let at-lane-sum = c.before in
     let at-loop = at-loop-from-lane-sum at-lane-sum in
@@ -64,13 +64,13 @@ store-requires c κs =
     let at-loop = at-loop-from-lane-sum at-lane-sum in
     let start = at-loop.before.before.before.before.before in
     let l = at-loop.loop in
-    let n = at-lane-sum.before.before.before.before.at-most-lane in
+    let n = at-lane-sum.before.before.before.before.at_most_lane-n in
     (n.ensures.1, omega (arith, l.inv.2.long, start.pre.2, n.ensures.0))
 
-abbrev lane-sum-from-slice-known2 : tie.After-slice-known2 invariant-loop decreases-loop → tie.After-lane-sum invariant-loop decreases-loop
+abbrev lane-sum-from-slice-known2 : tie.After-slice_known-in-loop-q-1 invariant-loop decreases-loop → tie.After-lane_sum-sum invariant-loop decreases-loop
 lane-sum-from-slice-known2 c = c.before.before.before.before
 
-add-q : tie.Need-overflow-add-q invariant-loop decreases-loop
+add-q : tie.Need-overflow_add-q invariant-loop decreases-loop
 add-q c =
     let at-lane-sum = lane-sum-from-slice-known2 c in
     let at-loop = at-loop-from-lane-sum at-lane-sum in
@@ -79,13 +79,13 @@ add-q c =
     let n = at-lane-sum.before.before.before.before.at-most-lane in
     omega (arith, n.ensures.0)
 
-loop-less : tie.Need-loop-smaller invariant-loop decreases-loop
+loop-less : tie.Need-loop-q-smaller invariant-loop decreases-loop
 loop-less c =
     let n = (lane-sum-from-slice-known2 c).before.before.before.before.at-most-lane in
     let h : 0 < n.result = n.ensures.2 (omega arith) in
     omega (arith, n.ensures.0, h)
 
-loop-again : tie.Need-loop-preserved invariant-loop decreases-loop
+loop-again : tie.Need-loop-q-preserved invariant-loop decreases-loop
 unfolding sum_at
 loop-again c =
     let at-lane-sum = lane-sum-from-slice-known2 c in
@@ -109,16 +109,16 @@ loop-again c =
     c.before.before.store.ensures in
     (omega (arith, n.ensures.0), lanes.ensures.1, written_on old l.out _ args.at l.q n.result g l.inv.2 piece)
 
-same_length : tie.Need-same-length invariant-loop decreases-loop
-same_length c = c.before.loop.invariant.2.long
+same_length : tie.Need-shape_of-out invariant-loop decreases-loop
+same_length c = c.before.loop-q.invariant.2.long
 
-returns-2 : tie.Need-returns-2 invariant-loop decreases-loop
+returns-2 : tie.Need-returns invariant-loop decreases-loop
 returns-2 c =
-    let l = c.before.loop in
+    let l = c.before.loop-q in
     let args = c.before.before.before.before.before.before.args in
     let g : ℕ → ℕ = sum_at args.runs.count (λ j. get_or args.weights j 0) args.src.now args.runs.starts in
     subst (λ (n : ℕ). RunWritten args.out.now l.out args.at n g) (omega arith) l.invariant.2
 
-pub combine-spec : {M : Type 1} → statement M
-combine-spec = tie.close (tie.spec invariant-loop decreases-loop returns loop-holds (λ c. search rules) (λ c κs. search rules) gather-requires
+pub combine_spec : {M : Type 1} → statement M
+combine_spec = tie.close (tie.spec invariant-loop decreases-loop returns loop-holds (λ c. search rules) (λ c κs. search rules) gather-requires
     lane-sum-requires add-store store-requires add-q loop-less loop-again same_length returns-2)

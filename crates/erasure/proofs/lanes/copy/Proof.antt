@@ -9,18 +9,18 @@ use borrow.Author.Rules.{rules}
 use Rattle.erasure.proofs.lanes.copy.Statement.{statement}
 use Rattle.erasure.proofs.lanes.copy.Tie as tie
 
-abbrev invariant-loop : tie.invariant-loop
+abbrev invariant-loop : tie.invariant-loop-i
 invariant-loop src from out₀ at m i₀ out i = (i ≤ m) × RunWritten out₀ out at i (λ j. get_or src (from + j) 0)
 
-abbrev decreases-loop : tie.decreases-loop
+abbrev decreases-loop : tie.decreases-loop-i
 decreases-loop src from out₀ at m i₀ out i = m - i
 
-loop-holds : tie.Need-loop-init invariant-loop decreases-loop
+loop-holds : tie.Need-loop-i-init invariant-loop decreases-loop
 loop-holds c = (search rules, written_none _ _ _)
 
-loop-again : tie.Need-loop-preserved invariant-loop decreases-loop
+loop-again : tie.Need-loop-i-preserved invariant-loop decreases-loop
 loop-again c =
-    let l = c.before.before.loop in
+    let l = c.before.before.loop-i in
     let args = c.before.before.before.args in
     let src = args.src.now in (
       search rules,
@@ -30,7 +30,7 @@ loop-again c =
 
 returns : tie.Need-returns invariant-loop decreases-loop
 returns c =
-    let l = c.before.loop in
+    let l = c.before.loop-i in
     let args = c.before.before.args in
     subst (λ (n : ℕ). RunWritten args.out.now l.out args.at n (λ j. get_or args.src.now (args.from + j) 0))
     (omega arith) l.invariant.1

@@ -14,18 +14,18 @@ use borrow.Author.Rules.{rules}
 use Rattle.erasure.proofs.lanes.lane_sum.Statement.{statement}
 use Rattle.erasure.proofs.lanes.lane_sum.Tie as tie
 
-abbrev invariant-loop : tie.invariant-loop
+abbrev invariant-loop : tie.invariant-loop-n
 invariant-loop lanes weights k out₀ n₀ out n = (n ≤ 8) × Lane out (λ i. sum_to k (λ j. times_bits n (entry lanes j i) (get_or weights j 0 / 2 ^ (8 - n))))
 
-abbrev decreases-loop : tie.decreases-loop
+abbrev decreases-loop : tie.decreases-loop-n
 decreases-loop lanes weights k out₀ n₀ out n = 8 - n
 
-loop-holds : tie.Need-loop-init invariant-loop decreases-loop
+loop-holds : tie.Need-loop-n-init invariant-loop decreases-loop
 loop-holds c = (search rules, λ i h. get_or-replicate lane i 0 0 h ∙ sym (sum_none c.args.k (λ j. entry c.args.lanes.now j i) _))
 
-loop-again : tie.Need-loop-preserved invariant-loop decreases-loop
+loop-again : tie.Need-loop-n-preserved invariant-loop decreases-loop
 loop-again c =
-    let l = c.before.before.loop in
+    let l = c.before.before.loop-n in
     let start = c.before.before.before in
     let args = start.args in
     let b : ℕ = 7 - l.n in
@@ -36,7 +36,7 @@ loop-again c =
       λ i h.
           let x : ℕ → ℕ = λ j. entry args.lanes.now j i in
           let small : (j : ℕ) → j < args.k → x j < 256 = λ j lt. start.requires.1 j i lt h in
-          c.bit-step.ensures i h
+          c.bit_step-more.ensures i h
           ∙ ap (λ (s : ℕ). bit_xor (xtime s) (sum_to args.k (λ j. bit_of (w j) b * x j)))
           (l.invariant.1 i h ∙ ap (λ (m : ℕ). sum_to args.k (λ j. times_bits l.n (x j) (w j / 2 ^ m))) (sym up))
           ∙ sum-bit args.k l.n b x w small
@@ -46,7 +46,7 @@ loop-again c =
 returns : tie.Need-returns invariant-loop decreases-loop
 unfolding times
 returns c i h =
-    let l = c.before.loop in
+    let l = c.before.loop-n in
     let args = c.before.before.args in
     let lanes = args.lanes.now in
     let e : l.n ≡ 8 = omega arith in
@@ -56,6 +56,6 @@ returns c i h =
     (λ j. times (entry lanes j i) (get_or args.weights j 0))
     (λ j b. ap (times_bits 8 (entry lanes j i)) (div-one (get_or args.weights j 0)))
 
-pub lane-sum-spec : {M : Type 1} → statement M
-lane-sum-spec = tie.close (tie.spec invariant-loop decreases-loop loop-holds (λ c. search rules) (λ c κs. search rules) (λ c. search rules) (λ c. search rules)
+pub lane_sum_spec : {M : Type 1} → statement M
+lane_sum_spec = tie.close (tie.spec invariant-loop decreases-loop loop-holds (λ c. search rules) (λ c κs. search rules) (λ c. search rules) (λ c. search rules)
     loop-again returns)

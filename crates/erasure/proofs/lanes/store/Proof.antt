@@ -9,18 +9,18 @@ use borrow.Author.Rules.{rules}
 use Rattle.erasure.proofs.lanes.store.Statement.{statement}
 use Rattle.erasure.proofs.lanes.store.Tie as tie
 
-abbrev invariant-loop : tie.invariant-loop
+abbrev invariant-loop : tie.invariant-loop-i
 invariant-loop out₀ at m x i₀ out i = (i ≤ m) × RunWritten out₀ out at i (λ j. get_or x j 0)
 
-abbrev decreases-loop : tie.decreases-loop
+abbrev decreases-loop : tie.decreases-loop-i
 decreases-loop out₀ at m x i₀ out i = m - i
 
-loop-holds : tie.Need-loop-init invariant-loop decreases-loop
+loop-holds : tie.Need-loop-i-init invariant-loop decreases-loop
 loop-holds c = (search rules, written_none _ _ _)
 
-loop-again : tie.Need-loop-preserved invariant-loop decreases-loop
+loop-again : tie.Need-loop-i-preserved invariant-loop decreases-loop
 loop-again c =
-    let l = c.before.loop in
+    let l = c.before.loop-i in
     let args = c.before.before.args in (
       search rules,
       written_more args.out.now l.out args.at l.i (λ j. get_or args.t4 j 0) (get_or args.t4 l.i 0)
@@ -29,7 +29,7 @@ loop-again c =
 
 returns : tie.Need-returns invariant-loop decreases-loop
 returns c =
-    let l = c.before.loop in
+    let l = c.before.loop-i in
     let args = c.before.before.args in
     subst (λ (n : ℕ). RunWritten args.out.now l.out args.at n (λ j. get_or args.t4 j 0)) (omega arith) l.invariant.1
 

@@ -11,25 +11,25 @@ use borrow.Author.Rules.{rules}
 use Rattle.erasure.proofs.points.numbered.Statement.{statement}
 use Rattle.erasure.proofs.points.numbered.Tie as tie
 
-abbrev invariant-loop : tie.invariant-loop
+abbrev invariant-loop : tie.invariant-loop-j
 invariant-loop out₀ z₀ j₀ out z j = (j ≤ most_servers) × (z ≡ j + 1) × Filled 0 (λ i v. v ≡ i + 1) most_servers j out
 
-abbrev decreases-loop : tie.decreases-loop
+abbrev decreases-loop : tie.decreases-loop-j
 decreases-loop out₀ z₀ j₀ out z j = most_servers - j
 
-loop-holds : tie.Need-loop-init invariant-loop decreases-loop
+loop-holds : tie.Need-loop-j-init invariant-loop decreases-loop
 loop-holds c = (search rules, refl, filled_none refl)
 
-loop-again : tie.Need-loop-preserved invariant-loop decreases-loop
-loop-again c = let l = c.before.loop in (search rules, omega (arith, l.invariant.1), filled_more l.invariant.2 (omega arith) _ l.invariant.1)
+loop-again : tie.Need-loop-j-preserved invariant-loop decreases-loop
+loop-again c = let l = c.before.loop-j in (search rules, omega (arith, l.invariant.1), filled_more l.invariant.2 (omega arith) _ l.invariant.1)
 
 returns : tie.Need-returns invariant-loop decreases-loop
 returns c =
-    let l = c.before.loop in
+    let l = c.before.loop-j in
     ext_get_or 0 l.out (up_to most_servers) (l.invariant.2.size ∙ sym (up_to-length most_servers))
     (λ i h. let b : i < most_servers = omega (arith, l.invariant.2.size) in
     l.invariant.2.each i (omega arith) ∙ sym (up_to_at most_servers i b))
 
-pub numbered-spec : {M : Type 1} → statement M
-numbered-spec = tie.close (tie.spec invariant-loop decreases-loop loop-holds (λ c. search rules) (λ c. search rules) (λ c. search rules) (λ c. search rules)
+pub numbered_spec : {M : Type 1} → statement M
+numbered_spec = tie.close (tie.spec invariant-loop decreases-loop loop-holds (λ c. search rules) (λ c. search rules) (λ c. search rules) (λ c. search rules)
     loop-again returns)

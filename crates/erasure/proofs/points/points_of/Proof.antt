@@ -10,35 +10,35 @@ use Rattle.erasure.specs.System.{width}
 use Rattle.erasure.proofs.points.points_of.Statement.{statement}
 use Rattle.erasure.proofs.points.points_of.Tie as tie
 
-abbrev invariant-loop : tie.invariant-loop
+abbrev invariant-loop : tie.invariant-loop-j
 invariant-loop k points servers out₀ j₀ out j = (j ≤ k) × Filled 0 (λ i v. v ≡ point_of points (get_or servers i 0)) width j out
 
-abbrev decreases-loop : tie.decreases-loop
+abbrev decreases-loop : tie.decreases-loop-j
 decreases-loop k points servers out₀ j₀ out j = k - j
 
-loop-holds : tie.Need-loop-init invariant-loop decreases-loop
+loop-holds : tie.Need-loop-j-init invariant-loop decreases-loop
 loop-holds c = (search rules, filled_none refl)
 
-sub_out : tie.Need-overflow-sub-out invariant-loop decreases-loop
+sub_out : tie.Need-overflow_sub-out invariant-loop decreases-loop
 sub_out c =
-    let j = c.before.loop.j in
+    let j = c.before.loop-j.j in
     let h : j < c.before.before.args.k = search rules in
     (c.before.before.requires.1 j h).0
 
-shared-slice-read-out : tie.Need-shared-slice-read-out invariant-loop decreases-loop
+shared-slice-read-out : tie.Need-bounds-points-i invariant-loop decreases-loop
 shared-slice-read-out c =
-    let j = c.before.before.loop.j in
+    let j = c.before.before.loop-j.j in
     let h : j < c.before.before.before.args.k = search rules in
     let r = c.before.before.before.requires.1 j h in
     omega (arith, r.0, r.1)
 
-loop-again : tie.Need-loop-preserved invariant-loop decreases-loop
+loop-again : tie.Need-loop-j-preserved invariant-loop decreases-loop
 unfolding point_of
-loop-again c = (search rules, filled_more c.before.before.loop.invariant.1 (omega arith) _ refl)
+loop-again c = (search rules, filled_more c.before.before.loop-j.invariant.1 (omega arith) _ refl)
 
 returns : tie.Need-returns invariant-loop decreases-loop
-returns c j h = c.before.loop.invariant.1.each j (omega arith)
+returns c j h = c.before.loop-j.invariant.1.each j (omega arith)
 
-pub points-of-spec : {M : Type 1} → statement M
-points-of-spec = tie.close (tie.spec invariant-loop decreases-loop loop-holds (λ c. search rules) (λ c. search rules) sub_out shared-slice-read-out
+pub points_of_spec : {M : Type 1} → statement M
+points_of_spec = tie.close (tie.spec invariant-loop decreases-loop loop-holds (λ c. search rules) (λ c. search rules) sub_out shared-slice-read-out
     (λ c. search rules) (λ c. search rules) (λ c. search rules) loop-again returns)

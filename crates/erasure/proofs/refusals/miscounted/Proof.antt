@@ -6,18 +6,18 @@ use borrow.Author.Rules.{rules}
 use Rattle.erasure.proofs.refusals.miscounted.Statement.{statement}
 use Rattle.erasure.proofs.refusals.miscounted.Tie as tie
 
-returns : tie.Need-returns
-returns c = none-counted c.before.args.given c.before.args.f c.before.args.count c.if1.true
+returns : tie.Need-returns-then-f-eq0
+returns c = none-counted c.before.args.given c.before.args.f c.before.args.count c.if-f-eq0.true
 
-returns-2 : tie.Need-returns-2
+returns-2 : tie.Need-returns-then-given-f-ne0
 returns-2 c =
     let args = c.before.before.args in
-    sym (ap not (not-whole args.given args.f args.count c.if2.true))
+    sym (ap not (not-whole args.given args.f args.count c.if-given-f-ne0.true))
 
-returns-3 : tie.Need-returns-3
+returns-3 : tie.Need-returns
 returns-3 c =
     let args = c.before.before.args in
-    quotient args.given args.f args.count (search rules) c.if2.false
+    quotient args.given args.f args.count (search rules) c.if-given-f-ne0.false
 
-pub miscounted-spec : {M : Type 1} → statement M
-miscounted-spec = tie.close (tie.spec returns (λ c. search rules) returns-2 (λ c. search rules) returns-3)
+pub miscounted_spec : {M : Type 1} → statement M
+miscounted_spec = tie.close (tie.spec returns (λ c. search rules) returns-2 (λ c. search rules) returns-3)

@@ -17,11 +17,11 @@ use Rattle.erasure.proofs.refusals.weighed_refusal.Tie as tie
 
 -- ---- what the tests that were passed say
 
-faults-in : (c : tie.Else1) → not (within 1 top_faults c.before.before.args.t) ≡ false
-faults-in c = sym c.before.outside.ensures ∙ c.if1.false
+faults-in : (c : tie.Else-outside) → not (within 1 top_faults c.before.before.args.t) ≡ false
+faults-in c = sym c.before.outside.ensures ∙ c.if-outside.false
 
 -- past three tests, the number is that of the last
-module _ (c : tie.Else3) where
+module _ (c : tie.Else-room-lt-CONTENT_ROOM) where
   abbrev start : tie.Start
   start = c.before.before.before.before
 
@@ -32,50 +32,50 @@ module _ (c : tie.Else3) where
       start.args.n)) ≡ d → weighed_refusal_def start.args.t start.args.n start.args.given start.args.room ≡ cond d 16 0
   last-test d =
       weighed_tests start.args.t start.args.n start.args.given start.args.room false false false d (faults-in c.before.before)
-      (le-ltb _ _ c.before.if2.false) (le-ltb _ _ c.if3.false)
+      (le-ltb _ _ c.before.if-n-gt-TOP_LENGTH.false) (le-ltb _ _ c.if-room-lt-CONTENT_ROOM.false)
 
 counted : (c : tie.After-miscounted) → let s = start c.before.before.before in
     not (eqb s.args.given ((shelf s.args.t).threshold * fragment_size_def (shelf s.args.t).threshold s.args.n)) ≡ c.miscounted.result
 counted c =
     let s = start c.before.before.before in
-    let k = c.before.before.threshold-of in
+    let k = c.before.before.threshold_of-k in
     ap (λ (x : ℕ). not (eqb s.args.given (x * fragment_size_def x s.args.n))) (sym k.ensures)
     ∙ ap (λ (x : ℕ). not (eqb s.args.given (k.result * x))) (sym c.before.size.ensures) ∙ sym c.miscounted.ensures
 
 -- ---- the needs
 
-returns : tie.Need-returns
+returns : tie.Need-returns-then-outside
 returns c =
     let args = c.before.before.args in
-    sym (weighed_tests args.t args.n args.given args.room true _ _ _ (sym c.before.outside.ensures ∙ c.if1.true) refl refl refl)
+    sym (weighed_tests args.t args.n args.given args.room true _ _ _ (sym c.before.outside.ensures ∙ c.if-outside.true) refl refl refl)
 
-returns-2 : tie.Need-returns-2
+returns-2 : tie.Need-returns-then-n-gt-TOP_LENGTH
 returns-2 c =
     let args = c.before.before.before.args in
-    sym (weighed_tests args.t args.n args.given args.room false true _ _ (faults-in c.before) (lt-ltb _ _ c.if2.true) refl refl)
+    sym (weighed_tests args.t args.n args.given args.room false true _ _ (faults-in c.before) (lt-ltb _ _ c.if-n-gt-TOP_LENGTH.true) refl refl)
 
-returns-3 : tie.Need-returns-3
+returns-3 : tie.Need-returns-then-room-lt-CONTENT_ROOM
 returns-3 c =
     let args = c.before.before.before.before.args in
     sym (weighed_tests args.t args.n args.given args.room false false true _ (faults-in c.before.before)
-    (le-ltb _ _ c.before.if2.false) (lt-ltb _ _ c.if3.true) refl)
+    (le-ltb _ _ c.before.if-n-gt-TOP_LENGTH.false) (lt-ltb _ _ c.if-room-lt-CONTENT_ROOM.true) refl)
 
-threshold-of-requires : tie.Need-threshold-of-requires
+threshold-of-requires : tie.Need-threshold_of-k-requires
 threshold-of-requires c κs = (faults c).1
 
 size-requires : tie.Need-size-requires
 unfolding shelf
 size-requires c κs =
     let p = c.before in
-    let k : c.threshold-of.result ≡ (start p).args.t + 1 = c.threshold-of.ensures in
-    (omega (arith, k), omega (arith, k, (faults p).1), p.before.if2.false)
+    let k : c.threshold_of-k.result ≡ (start p).args.t + 1 = c.threshold_of-k.ensures in
+    (omega (arith, k), omega (arith, k, (faults p).1), p.before.if-n-gt-TOP_LENGTH.false)
 
-returns-4 : tie.Need-returns-4
-returns-4 c = sym (last-test c.before.before.before.before true (counted c.before ∙ c.if4.true))
+returns-4 : tie.Need-returns-then-miscounted
+returns-4 c = sym (last-test c.before.before.before.before true (counted c.before ∙ c.if-miscounted.true))
 
-returns-5 : tie.Need-returns-5
-returns-5 c = sym (last-test c.before.before.before.before false (counted c.before ∙ c.if4.false))
+returns-5 : tie.Need-returns
+returns-5 c = sym (last-test c.before.before.before.before false (counted c.before ∙ c.if-miscounted.false))
 
-pub weighed-refusal-spec : {M : Type 1} → statement M
-weighed-refusal-spec = tie.close (tie.spec (λ c κs. search rules) returns returns-2 returns-3 threshold-of-requires size-requires
+pub weighed_refusal_spec : {M : Type 1} → statement M
+weighed_refusal_spec = tie.close (tie.spec (λ c κs. search rules) returns returns-2 returns-3 threshold-of-requires size-requires
     (λ c κs. search rules) returns-4 returns-5)

@@ -12,38 +12,38 @@ use Rattle.erasure.proofs.WeightTests.{server_tests}
 use Rattle.erasure.proofs.refusals.weights_refusal.Statement.{statement}
 use Rattle.erasure.proofs.refusals.weights_refusal.Tie as tie
 
-faults-in : (c : tie.Else1) → not (within 1 top_faults c.before.before.before.args.t) ≡ false
-faults-in c = sym c.before.outside.ensures ∙ c.if1.false
+faults-in : (c : tie.Else-outside) → not (within 1 top_faults c.before.before.before.args.t) ≡ false
+faults-in c = sym c.before.outside.ensures ∙ c.if-outside.false
 
 -- Places far back, each named once: the place, and from where it is seen.
-abbrev start-from-server-outside : tie.After-server-outside → tie.Start
+abbrev start-from-server-outside : tie.After-server_outside → tie.Start
 start-from-server-outside c = c.before.before.before.before.before
 
-servers-tested : (c : tie.After-server-outside) → let args = (start-from-server-outside c).args in
-    not (each (within 1 (shelf args.t).servers) args.servers.now) ≡ c.server-outside.result
+servers-tested : (c : tie.After-server_outside) → let args = (start-from-server-outside c).args in
+    not (each (within 1 (shelf args.t).servers) args.servers.now) ≡ c.server_outside.result
 servers-tested c =
-    ap (λ (s : ℕ). not (each (within 1 s) (start-from-server-outside c).args.servers.now)) (sym c.before.servers-of.ensures)
-    ∙ sym c.server-outside.ensures
+    ap (λ (s : ℕ). not (each (within 1 s) (start-from-server-outside c).args.servers.now)) (sym c.before.servers_of.ensures)
+    ∙ sym c.server_outside.ensures
 
-returns : tie.Need-returns
+returns : tie.Need-returns-then-outside
 returns c =
     let args = c.before.before.before.args in
-    sym (server_tests args.t args.servers.now true _ (sym c.before.outside.ensures ∙ c.if1.true) refl)
+    sym (server_tests args.t args.servers.now true _ (sym c.before.outside.ensures ∙ c.if-outside.true) refl)
 
-servers-of-requires : tie.Need-servers-of-requires
+servers-of-requires : tie.Need-servers_of-requires
 servers-of-requires c κs = (within_bounds 1 top_faults c.before.before.before.args.t (not-false _ (faults-in c))).1
 
-returns-2 : tie.Need-returns-2
+returns-2 : tie.Need-returns-then-server_outside
 returns-2 c =
     let args = (start-from-server-outside c.before).args in
     sym (server_tests args.t args.servers.now false true (faults-in c.before.before.before)
-    (servers-tested c.before ∙ c.if2.true))
+    (servers-tested c.before ∙ c.if-server_outside.true))
 
-returns-3 : tie.Need-returns-3
+returns-3 : tie.Need-returns
 returns-3 c =
     let args = (start-from-server-outside c.before).args in
     sym (server_tests args.t args.servers.now false false (faults-in c.before.before.before)
-    (servers-tested c.before ∙ c.if2.false))
+    (servers-tested c.before ∙ c.if-server_outside.false))
 
-pub weights-refusal-spec : {M : Type 1} → statement M
-weights-refusal-spec = tie.close (tie.spec (λ c κs. search rules) returns servers-of-requires (λ c κs. search rules) returns-2 returns-3)
+pub weights_refusal_spec : {M : Type 1} → statement M
+weights_refusal_spec = tie.close (tie.spec (λ c κs. search rules) returns servers-of-requires (λ c κs. search rules) returns-2 returns-3)

@@ -28,29 +28,29 @@ module _ (c : tie.Start) where
   f = c.args.f
 
 -- Places far back, each named once: the place, and from where it is seen.
-abbrev start-from-then1 : tie.Then1 → tie.Start
+abbrev start-from-then1 : tie.Then-server-k → tie.Start
 start-from-then1 c = c.before.before.before
 
 plain-requires : tie.Need-plain-requires
 plain-requires c κs =
     let pre = (start-from-then1 c).requires in
-    (pre.7, omega (arith, pre.1, pre.4, c.if1.true))
+    (pre.7, omega (arith, pre.1, pre.4, c.if-server-k.true))
 
-returns : tie.Need-returns
+returns : tie.Need-returns-then-server-k
 returns c =
     let s = start-from-then1 c.before in
     let pre = s.pre in
     let server = s.args.server in
-    let small : (j : ℕ) → get_or (content s) j 0 < 256 = λ j. (c.before.before.shared-slice-known2.given j).fits in
+    let small : (j : ℕ) → get_or (content s) j 0 < 256 = λ j. (c.before.before.shared_slice_known-2-1.given j).fits in
     c.plain.ensures
     ∙ ap (λ (l : List ℕ). l ++ replicate (fragment_room - f s) 0)
     (ap (λ (x : ℕ). plain_of x (server - 1) (content s)) pre.6
-    ∙ run-made (points s) (k s) (content s) server pre.3 pre.2 pre.4 c.before.if1.true small)
+    ∙ run-made (points s) (k s) (content s) server pre.3 pre.2 pre.4 c.before.if-server-k.true small)
 
-abbrev start-from-plain-runs : tie.After-plain-runs → tie.Start
+abbrev start-from-plain-runs : tie.After-plain_runs → tie.Start
 start-from-plain-runs c = c.before.before.before.before
 
-plain-runs-requires : tie.Need-plain-runs-requires
+plain-runs-requires : tie.Need-plain_runs-requires
 plain-runs-requires c κs = let pre = c.before.before.before.requires in (pre.1, pre.7)
 
 value-requires : tie.Need-value-requires
@@ -71,7 +71,7 @@ value-requires c κs =
       omega (arith, many, pre.0),
     )
 
-returns-2 : tie.Need-returns-2
+returns-2 : tie.Need-returns
 unfolding point_of
 returns-2 c =
     let s = start-from-plain-runs c.before.before in

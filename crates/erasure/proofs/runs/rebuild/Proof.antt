@@ -25,16 +25,16 @@ module _ (c : tie.Start) where
   places-long = search rules
 
 -- Places far back, each named once: the place, and from where it is seen.
-abbrev start-from-of-chosen : tie.After-of-chosen → tie.Start
+abbrev start-from-of-chosen : tie.After-of_chosen-rows → tie.Start
 start-from-of-chosen c = c.before.before.before.before.before
 
-of-chosen-requires : tie.Need-of-chosen-requires
+of-chosen-requires : tie.Need-of_chosen-rows-requires
 of-chosen-requires c κs = let pre = c.before.before.before.before.requires in (pre.0, pre.1, pre.2, pre.3, pre.4, pre.5)
 
-runs-at-requires : tie.Need-runs-at-requires
+runs-at-requires : tie.Need-runs_at-requires
 runs-at-requires c κs = let pre = (start-from-of-chosen c).requires in (pre.1, λ j h. omega (arith, pre.8 j h))
 
-module _ (c : tie.After-runs-at) where
+module _ (c : tie.After-runs_at) where
   abbrev start : tie.Start
   start = start-from-of-chosen c.before
 
@@ -44,17 +44,17 @@ module _ (c : tie.After-runs-at) where
   abbrev points : List ℕ
   points = start.args.points.now
 
-  count_is : c.runs-at.result.count ≡ count
-  count_is = c.runs-at.ensures.0
+  count_is : c.runs_at.result.count ≡ count
+  count_is = c.runs_at.ensures.0
 
-  size_is : c.runs-at.result.size ≡ start.args.f
-  size_is = c.runs-at.ensures.1
+  size_is : c.runs_at.result.size ≡ start.args.f
+  size_is = c.runs_at.ensures.1
 
-write-runs-requires : tie.Need-write-runs-requires
+write-runs-requires : tie.Need-write_runs-requires
 write-runs-requires c κs =
     let at = c.before in
     let pre = (start at).requires in
-    let runs = at.runs-at in (
+    let runs = at.runs_at in (
       omega (arith, count_is at, pre.1),
       subst (λ (x : ℕ). (start at).args.n ≤ x) (ap₂ (λ (x y : ℕ). x * y) (sym (count_is at)) (sym (size_is at))) pre.6,
       pre.7,
@@ -67,8 +67,8 @@ returns c =
     let s = start at in
     let args = s.args in
     let pre = s.pre in
-    let runs = at.runs-at in
-    let rows = at.before.of-chosen in
+    let runs = at.runs_at in
+    let rows = at.before.of_chosen-rows in
     let k = count at in
     let all = points at in
     let fragments = args.fragments.now in
@@ -78,7 +78,7 @@ returns c =
     let ls = servers-long s in
     let la = places-long s in
     let lg : length given ≡ width = length-map servers (point_of all) ∙ ls in
-    let small : (j : ℕ) → get_or fragments j 0 < 256 = λ j. (at.before.before.before.before.shared-slice-known2.given j).fits in
+    let small : (j : ℕ) → get_or fragments j 0 < 256 = λ j. (at.before.before.before.before.shared_slice_known-2-1.given j).fits in
     let apart : AllDifferent k given = points-differ k all servers given pre.3 pre.4 pre.5
     (λ j b. get_d_map (point_of all) servers j 0 0 (omega (arith, ls, pre.1))) in
     let are : (i j : ℕ) → i < k → j < k → get_or rows.result (i * k + j) 0 ≡ weight_of (take k given) (get_or all i 0) j =
@@ -86,7 +86,7 @@ returns c =
     ap (λ (l : List ℕ). get_or l (i * k + j) 0) rows.ensures ∙ row-entry all (map (point_of all) (take k servers)) (replicate (rows_room - k * k) 0) k i
     j hi hj
     ∙ ap (λ (xs : List ℕ). weight_of xs (get_or all i 0) j) (sym (take-map (point_of all) k servers)) in
-    c.before.before.write-runs.ensures
+    c.before.before.write_runs.ensures
     ∙ ap (λ (l : List ℕ). l ++ drop args.n args.out.now)
     (ap₂ (λ (x y : ℕ). weighed_of x y args.n rows.result fragments runs.result.starts) (count_is at) (size_is at)
     ∙ weighed_rebuilt k args.f args.n rows.result all given fragments runs.result.starts pre.6 (omega (arith, lg, pre.1)) apart
@@ -94,5 +94,5 @@ returns c =
     ∙ rebuilt_as k args.f args.n all given given fragments runs.result.starts (map (λ p. p * args.f) places) pre.6 refl
     (λ j b. runs.ensures.2 j b ∙ sym (get_d_map (λ p. p * args.f) places j 0 0 (omega (arith, la, pre.1)))))
 
-pub rebuild-spec : {M : Type 1} → statement M
-rebuild-spec = tie.close (tie.spec of-chosen-requires runs-at-requires write-runs-requires (λ c. search rules) returns)
+pub rebuild_spec : {M : Type 1} → statement M
+rebuild_spec = tie.close (tie.spec of-chosen-requires runs-at-requires write-runs-requires (λ c. search rules) returns)

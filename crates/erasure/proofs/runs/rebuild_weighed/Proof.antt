@@ -11,10 +11,10 @@ use Rattle.erasure.proofs.Rebuilt.{weighed-bytes}
 use Rattle.erasure.proofs.runs.rebuild_weighed.Statement.{statement}
 use Rattle.erasure.proofs.runs.rebuild_weighed.Tie as tie
 
-abbrev start-from-plain-runs : tie.After-plain-runs → tie.Start
+abbrev start-from-plain-runs : tie.After-plain_runs → tie.Start
 start-from-plain-runs c = c.before.before.before
 
-write-runs-requires : tie.Need-write-runs-requires
+write-runs-requires : tie.Need-write_runs-requires
 write-runs-requires c κs =
     let at = c.before in
     let start = start-from-plain-runs at in
@@ -38,10 +38,10 @@ returns c =
     let args = start.args in
     let runs = at.plain_runs in
     let fragments = args.fragments.now in
-    c.before.before.write-runs.ensures
+    c.before.before.write_runs.ensures
     ∙ ap (λ (l : List ℕ). l ++ drop args.n args.out.now)
     (ap₂ (λ (x y : ℕ). weighed_of x y args.n args.rows fragments runs.result.starts) runs.ensures.0 runs.ensures.1
     ∙ weighed-bytes args.k args.f args.n args.rows fragments runs.result.starts start.pre.1 runs.ensures.2)
 
-pub rebuild-weighed-spec : {M : Type 1} → statement M
-rebuild-weighed-spec = tie.close (tie.spec (λ c κs. search rules) write-runs-requires (λ c. search rules) returns)
+pub rebuild_weighed_spec : {M : Type 1} → statement M
+rebuild_weighed_spec = tie.close (tie.spec (λ c κs. search rules) write-runs-requires (λ c. search rules) returns)

@@ -11,25 +11,25 @@ use Rattle.erasure.proofs.runs.run.Statement.{statement}
 use Rattle.erasure.proofs.runs.run.Tie as tie
 
 -- Places far back, each named once: the place, and from where it is seen.
-abbrev start-from-unit-of : tie.After-unit-of → tie.Start
+abbrev start-from-unit-of : tie.After-unit_of-j → tie.Start
 start-from-unit-of c = c.before.before.before
 
 copy-requires : tie.Need-copy-requires
 copy-requires c κs =
     let at-unit-of = c.before.before.before in
     let start = start-from-unit-of at-unit-of in
-    (start.pre.1 at-unit-of.unit-of.result c.before.before.if1.true, start.pre.2)
+    (start.pre.1 at-unit-of.unit_of-j.result c.before.before.if-j-k.true, start.pre.2)
 
-returns : tie.Need-returns
+returns : tie.Need-returns-then-j-k
 returns c =
     let at-unit-of = c.before.before.before.before.before.before in
-    let taken = c.before.before.before.before.before.if1.true in
+    let taken = c.before.before.before.before.before.if-j-k.true in
     let args = (start-from-unit-of at-unit-of).args in
     let runs = args.runs in
     let fragments = args.fragments.now in
-    let r = at-unit-of.unit-of in
+    let r = at-unit-of.unit_of-j in
     let unit = r.ensures taken in
-    let small : (j : ℕ) → get_or fragments j 0 < 256 = λ j. (at-unit-of.before.before.shared-slice-known.given j).fits in
+    let small : (j : ℕ) → get_or fragments j 0 < 256 = λ j. (at-unit-of.before.before.shared_slice_known-1.given j).fits in
     written_as _ _ args.at args.m (λ q. byte_at fragments runs.starts q r.result) (sum_at runs.count (λ j. get_or args.row j 0) fragments
     runs.starts)
     (λ q h. sym (copies runs.count (λ j. get_or args.row j 0) fragments runs.starts q r.result taken unit.0 unit.1 small))
@@ -40,7 +40,7 @@ combine-requires c κs =
     let start = start-from-unit-of c.before.before in
     (start.pre.0, λ j h. omega (arith, start.pre.1 j h), start.pre.2, start.pre.3)
 
-returns-2 : tie.Need-returns-2
+returns-2 : tie.Need-returns
 returns-2 c = c.before.before.combine.ensures
 
 pub run_spec : {M : Type 1} → statement M

@@ -9,26 +9,26 @@ use borrow.Author.Rules.{rules}
 use Rattle.erasure.proofs.runs.runs_at.Statement.{statement}
 use Rattle.erasure.proofs.runs.runs_at.Tie as tie
 
-abbrev invariant-loop : tie.invariant-loop
+abbrev invariant-loop : tie.invariant-loop-j
 invariant-loop f k at out₀ j₀ out j = (j ≤ k) × Filled 0 (λ i v. v ≡ get_or at i 0 * f) width j out
 
-abbrev decreases-loop : tie.decreases-loop
+abbrev decreases-loop : tie.decreases-loop-j
 decreases-loop f k at out₀ j₀ out j = k - j
 
-loop-holds : tie.Need-loop-init invariant-loop decreases-loop
+loop-holds : tie.Need-loop-j-init invariant-loop decreases-loop
 loop-holds c = (search rules, filled_none refl)
 
-mul-out-2 : tie.Need-overflow-mul-out-2 invariant-loop decreases-loop
+mul-out-2 : tie.Need-overflow_mul-out invariant-loop decreases-loop
 mul-out-2 c =
-    let h : c.before.loop.j < c.before.before.args.k = search rules in
-    omega (arith, c.before.before.requires.1 c.before.loop.j h)
+    let h : c.before.loop-j.j < c.before.before.args.k = search rules in
+    omega (arith, c.before.before.requires.1 c.before.loop-j.j h)
 
-loop-again : tie.Need-loop-preserved invariant-loop decreases-loop
-loop-again c = (search rules, filled_more c.before.loop.invariant.1 (omega arith) _ refl)
+loop-again : tie.Need-loop-j-preserved invariant-loop decreases-loop
+loop-again c = (search rules, filled_more c.before.loop-j.invariant.1 (omega arith) _ refl)
 
 returns : tie.Need-returns invariant-loop decreases-loop
-returns c = (refl, refl, λ j h. c.before.loop.invariant.1.each j (omega arith))
+returns c = (refl, refl, λ j h. c.before.loop-j.invariant.1.each j (omega arith))
 
-pub runs-at-spec : {M : Type 1} → statement M
-runs-at-spec = tie.close (tie.spec invariant-loop decreases-loop loop-holds (λ c. search rules) (λ c. search rules) mul-out-2 (λ c. search rules)
+pub runs_at_spec : {M : Type 1} → statement M
+runs_at_spec = tie.close (tie.spec invariant-loop decreases-loop loop-holds (λ c. search rules) (λ c. search rules) mul-out-2 (λ c. search rules)
     (λ c. search rules) (λ c. search rules) (λ c. search rules) loop-again returns)

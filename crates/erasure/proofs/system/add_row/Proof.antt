@@ -14,18 +14,18 @@ use borrow.Author.Rules.{rules}
 use Rattle.erasure.proofs.system.add_row.Statement.{statement}
 use Rattle.erasure.proofs.system.add_row.Tie as tie
 
-abbrev invariant-loop : tie.invariant-loop
+abbrev invariant-loop : tie.invariant-loop-c
 invariant-loop w sum row out₀ c₀ out c = (c ≤ system_row) × Filled 0 (λ j v. v ≡ bit_xor (get_or sum j 0) (times w (get_or row j 0))) system_row c out
 
-abbrev decreases-loop : tie.decreases-loop
+abbrev decreases-loop : tie.decreases-loop-c
 decreases-loop w sum row out₀ c₀ out c = system_row - c
 
-loop-holds : tie.Need-loop-init invariant-loop decreases-loop
+loop-holds : tie.Need-loop-c-init invariant-loop decreases-loop
 loop-holds c = (search rules, filled_none refl)
 
-loop-again : tie.Need-loop-preserved invariant-loop decreases-loop
+loop-again : tie.Need-loop-c-preserved invariant-loop decreases-loop
 loop-again c =
-    let at = c.before.before.loop in
+    let at = c.before.before.loop-c in
     let args = c.before.before.before.args in
     let x : Fits w8 (get_or args.t2 at.c 0) = search rules in (
       search rules,
@@ -34,8 +34,8 @@ loop-again c =
     )
 
 returns : tie.Need-returns invariant-loop decreases-loop
-returns c j h = c.before.loop.invariant.1.each j (omega arith)
+returns c j h = c.before.loop-c.invariant.1.each j (omega arith)
 
-pub add-row-spec : {M : Type 1} → statement M
-add-row-spec = tie.close (tie.spec invariant-loop decreases-loop loop-holds (λ c. search rules) (λ c. search rules) (λ c κs. search rules) (λ c. search rules)
+pub add_row_spec : {M : Type 1} → statement M
+add_row_spec = tie.close (tie.spec invariant-loop decreases-loop loop-holds (λ c. search rules) (λ c. search rules) (λ c κs. search rules) (λ c. search rules)
     (λ c. search rules) (λ c. search rules) loop-again returns)

@@ -11,21 +11,21 @@ use Rattle.erasure.specs.System.{width}
 use Rattle.erasure.proofs.system.begin.Statement.{statement}
 use Rattle.erasure.proofs.system.begin.Tie as tie
 
-abbrev invariant-loop : tie.invariant-loop
+abbrev invariant-loop : tie.invariant-loop-r
 invariant-loop k xs a₀ r₀ a r = (r ≤ k) × Filled [] (λ i row. (c : ℕ) → c < k → get_or row c 0 ≡ power (get_or xs i 0) c) width r a
 
-abbrev decreases-loop : tie.decreases-loop
+abbrev decreases-loop : tie.decreases-loop-r
 decreases-loop k xs a₀ r₀ a r = k - r
 
-loop-holds : tie.Need-loop-init invariant-loop decreases-loop
+loop-holds : tie.Need-loop-r-init invariant-loop decreases-loop
 loop-holds c = (search rules, filled_none refl)
 
-loop-again : tie.Need-loop-preserved invariant-loop decreases-loop
-loop-again c = (search rules, filled_more c.before.before.loop.invariant.1 (omega arith) _ c.powers-row.ensures)
+loop-again : tie.Need-loop-r-preserved invariant-loop decreases-loop
+loop-again c = (search rules, filled_more c.before.before.loop-r.invariant.1 (omega arith) _ c.powers_row.ensures)
 
 returns : tie.Need-returns invariant-loop decreases-loop
-returns c i j hi hj = c.before.loop.invariant.1.each i (omega arith) j hj
+returns c i j hi hj = c.before.loop-r.invariant.1.each i (omega arith) j hj
 
-pub begin-spec : {M : Type 1} → statement M
-begin-spec = tie.close (tie.spec invariant-loop decreases-loop loop-holds (λ c. search rules) (λ c κs. search rules) (λ c. search rules) (λ c. search rules)
+pub begin_spec : {M : Type 1} → statement M
+begin_spec = tie.close (tie.spec invariant-loop decreases-loop loop-holds (λ c. search rules) (λ c κs. search rules) (λ c. search rules) (λ c. search rules)
     (λ c. search rules) (λ c. search rules) loop-again returns)

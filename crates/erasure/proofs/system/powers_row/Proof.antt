@@ -10,20 +10,20 @@ use Rattle.erasure.proofs.Fill.{Filled, filled_none, filled_more}
 use Rattle.erasure.proofs.system.powers_row.Statement.{statement}
 use Rattle.erasure.proofs.system.powers_row.Tie as tie
 
-abbrev invariant-loop : tie.invariant-loop
+abbrev invariant-loop : tie.invariant-loop-c
 invariant-loop x k out₀ c₀ out c = (1 ≤ c) × (c ≤ width) × Filled 0 (λ j v. v ≡ power x j) system_row c out
 
-abbrev decreases-loop : tie.decreases-loop
+abbrev decreases-loop : tie.decreases-loop-c
 decreases-loop x k out₀ c₀ out c = k - c
 
-loop-holds : tie.Need-loop-init invariant-loop decreases-loop
+loop-holds : tie.Need-loop-c-init invariant-loop decreases-loop
 unfolding power
 loop-holds c = (search rules, search rules, filled_more {l = replicate system_row 0} (filled_none refl) (omega arith) 1 refl)
 
-loop-again : tie.Need-loop-preserved invariant-loop decreases-loop
+loop-again : tie.Need-loop-c-preserved invariant-loop decreases-loop
 unfolding power
 loop-again c =
-    let at = c.before.before.loop in
+    let at = c.before.before.loop-c in
     let x = c.before.before.before.args.x in
     let e : suc (at.c - 1) ≡ at.c = omega arith in (
       search rules,
@@ -33,8 +33,8 @@ loop-again c =
     )
 
 returns : tie.Need-returns invariant-loop decreases-loop
-returns c j h = c.before.loop.invariant.2.each j (omega arith)
+returns c j h = c.before.loop-c.invariant.2.each j (omega arith)
 
-pub powers-row-spec : {M : Type 1} → statement M
-powers-row-spec = tie.close (tie.spec invariant-loop decreases-loop (λ c. search rules) loop-holds (λ c. search rules) (λ c. search rules) (λ c κs. search rules)
+pub powers_row_spec : {M : Type 1} → statement M
+powers_row_spec = tie.close (tie.spec invariant-loop decreases-loop (λ c. search rules) loop-holds (λ c. search rules) (λ c. search rules) (λ c κs. search rules)
     (λ c. search rules) (λ c. search rules) (λ c. search rules) loop-again returns)

@@ -18,23 +18,23 @@ use Rattle.erasure.specs.System.{width, entry}
 use Rattle.erasure.proofs.system.solve.Statement.{statement}
 use Rattle.erasure.proofs.system.solve.Tie as tie
 
-abbrev invariant-loop : tie.invariant-loop
+abbrev invariant-loop : tie.invariant-loop-p
 invariant-loop k a₀ p₀ a p = (p ≤ k) × Small k a × Half field laws k (mat a₀) p (mat a)
 
-abbrev decreases-loop : tie.decreases-loop
+abbrev decreases-loop : tie.decreases-loop-p
 decreases-loop k a₀ p₀ a p = k - p
 
-loop-holds : tie.Need-loop-init invariant-loop decreases-loop
+loop-holds : tie.Need-loop-p-init invariant-loop decreases-loop
 loop-holds c =
     let xs = c.before.args.xs in
     let k = c.before.args.k in
     let s : (i : ℕ) → get_or xs i 0 < 256 = λ i. (let f : Fits w8 (get_or xs i 0) = search rules in f.fits) in
-    (search rules, begun-small k xs c.begin.result s c.begin.ensures, half_none field laws k (mat c.begin.result))
+    (search rules, begun-small k xs c.begin-a.result s c.begin-a.ensures, half_none field laws k (mat c.begin-a.result))
 
-loop-again : tie.Need-loop-preserved invariant-loop decreases-loop
+loop-again : tie.Need-loop-p-preserved invariant-loop decreases-loop
 loop-again c =
-    let at = c.before.before.loop in
-    let sys = c.before.before.before.begin in
+    let at = c.before.before.loop-p in
+    let sys = c.before.before.before.begin-a in
     let start = c.before.before.before.before in
     let xs = start.args.xs in
     let k = start.args.k in
@@ -47,17 +47,17 @@ loop-again c =
     (half_system k at.p (mat sys.result) (λ r j. pow field laws (point xs r) j) (mat at.a)
     (begun k xs sys.result s sys.ensures) at.invariant.2) in (
       search rules,
-      small-out k at.a c.turn.result at.p (inverse e) c.turn.ensures at.invariant.1 (inverse-lt e small) pk,
-      subst (λ (n : ℕ). Half field laws k (mat sys.result) n (mat c.turn.result)) (sym (add-one at.p))
-          (half_more field laws k at.p (mat sys.result) (mat at.a) (mat c.turn.result) (to_byte (inverse e))
-          (turned_mat k at.a c.turn.result at.p (inverse e) c.turn.ensures at.invariant.1 (inverse-lt e small) pk) pk
+      small-out k at.a c.turn-b.result at.p (inverse e) c.turn-b.ensures at.invariant.1 (inverse-lt e small) pk,
+      subst (λ (n : ℕ). Half field laws k (mat sys.result) n (mat c.turn-b.result)) (sym (add-one at.p))
+          (half_more field laws k at.p (mat sys.result) (mat at.a) (mat c.turn-b.result) (to_byte (inverse e))
+          (turned_mat k at.a c.turn-b.result at.p (inverse e) c.turn-b.ensures at.invariant.1 (inverse-lt e small) pk) pk
           (unit_law at.a at.p small pos) at.invariant.2),
     )
 
 returns : tie.Need-returns invariant-loop decreases-loop
 returns c =
-    let at = c.before.loop in
-    let sys = c.before.before.begin in
+    let at = c.before.loop-p in
+    let sys = c.before.before.begin-a in
     let start = c.before.before.before in
     let xs = start.args.xs in
     let k = start.args.k in
@@ -69,6 +69,6 @@ returns c =
     (begun k xs sys.result s sys.ensures)
     (subst (λ (n : ℕ). Half field laws k (mat sys.result) n (mat at.a)) end at.invariant.2))
 
-pub solve-spec : {M : Type 1} → statement M
-solve-spec = tie.close (tie.spec invariant-loop decreases-loop (λ c κs. search rules) loop-holds (λ c κs. search rules) (λ c. search rules) (λ c. search rules)
+pub solve_spec : {M : Type 1} → statement M
+solve_spec = tie.close (tie.spec invariant-loop decreases-loop (λ c κs. search rules) loop-holds (λ c κs. search rules) (λ c. search rules) (λ c. search rules)
     loop-again returns)

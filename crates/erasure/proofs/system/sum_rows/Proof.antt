@@ -12,13 +12,13 @@ use borrow.Author.Rules.{rules}
 use Rattle.erasure.proofs.system.sum_rows.Statement.{statement}
 use Rattle.erasure.proofs.system.sum_rows.Tie as tie
 
-abbrev invariant-loop : tie.invariant-loop
+abbrev invariant-loop : tie.invariant-loop-c
 invariant-loop k a powers sum₀ c₀ sum c = (1 ≤ c) × (c ≤ k) × ((j : ℕ) → j < system_row → get_or sum j 0 ≡ sum_to c (λ i. times (get_or powers i 0) (entry a i j)))
 
-abbrev decreases-loop : tie.decreases-loop
+abbrev decreases-loop : tie.decreases-loop-c
 decreases-loop k a powers sum₀ c₀ sum c = k - c
 
-loop-holds : tie.Need-loop-init invariant-loop decreases-loop
+loop-holds : tie.Need-loop-c-init invariant-loop decreases-loop
 loop-holds c =
     let start = c.before in
     let args = start.args in (
@@ -29,22 +29,22 @@ loop-holds c =
           ∙ one-times (entry args.t1 0 j) (entry-byte system_row args.t1 start.well-formed.0.0 0 j start.well-formed.0.1.1)),
     )
 
-loop-again : tie.Need-loop-preserved invariant-loop decreases-loop
+loop-again : tie.Need-loop-c-preserved invariant-loop decreases-loop
 loop-again c =
-    let at = c.before.before.before.loop in
+    let at = c.before.before.before.loop-c in
     let args = c.before.before.before.before.before.args in (
       search rules,
       search rules,
       λ j h.
-          c.add_row.ensures j h
+          c.add_row-more.ensures j h
           ∙ sum_to_more at.c (λ i. times (get_or args.t2 i 0) (entry args.t1 i j)) (get_or at.sum j 0) _ (at.invariant.2 j h) refl,
     )
 
 returns : tie.Need-returns invariant-loop decreases-loop
 returns c j h =
     let args = c.before.before.before.args in
-    c.before.loop.invariant.2 j h ∙ ap (λ (n : ℕ). sum_to n (λ i. times (get_or args.t2 i 0) (entry args.t1 i j))) (omega arith)
+    c.before.loop-c.invariant.2 j h ∙ ap (λ (n : ℕ). sum_to n (λ i. times (get_or args.t2 i 0) (entry args.t1 i j))) (omega arith)
 
-pub sum-rows-spec : {M : Type 1} → statement M
-sum-rows-spec = tie.close (tie.spec invariant-loop decreases-loop (λ c. search rules) loop-holds (λ c. search rules) (λ c. search rules) (λ c. search rules)
+pub sum_rows_spec : {M : Type 1} → statement M
+sum_rows_spec = tie.close (tie.spec invariant-loop decreases-loop (λ c. search rules) loop-holds (λ c. search rules) (λ c. search rules) (λ c. search rules)
     (λ c κs. search rules) (λ c. search rules) (λ c. search rules) loop-again returns)

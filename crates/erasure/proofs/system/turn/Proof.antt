@@ -13,38 +13,38 @@ use Rattle.erasure.specs.System.{width, RowTurned, SystemTurned}
 use Rattle.erasure.proofs.system.turn.Statement.{statement}
 use Rattle.erasure.proofs.system.turn.Tie as tie
 
-abbrev invariant-loop : tie.invariant-loop
+abbrev invariant-loop : tie.invariant-loop-r
 invariant-loop p k pivot d out₀ r₀ out r = (r ≤ k) × Filled [] (λ j row. RowTurned (get_or out₀ j []) pivot d p row) width r out ×
     ((j : ℕ) → r ≤ j → get_or out j [] ≡ get_or out₀ j [])
 
-abbrev decreases-loop : tie.decreases-loop
+abbrev decreases-loop : tie.decreases-loop-r
 decreases-loop p k pivot d out₀ r₀ out r = k - r
 
-loop-holds : tie.Need-loop-init invariant-loop decreases-loop
+loop-holds : tie.Need-loop-r-init invariant-loop decreases-loop
 loop-holds c = (search rules, filled_none (search rules), λ j h. refl)
 
-loop-again : tie.Need-loop-preserved invariant-loop decreases-loop
+loop-again : tie.Need-loop-r-preserved invariant-loop decreases-loop
 loop-again c =
     let at-inverse = c.before.before.before.before.before in
-    let at = c.before.before.before.loop in
+    let at = c.before.before.before.loop-r in
     let args = at-inverse.before.before.args in
     let pivot = get_or args.t1 args.p [] in
-    let d = at-inverse.inverse.result in (
+    let d = at-inverse.inverse-d.result in (
       search rules,
       filled_more at.invariant.1 (omega arith) _
-          (subst (λ (x : List ℕ). RowTurned x pivot d args.p c.turn-row.result) (at.invariant.2 at.r (omega arith)) c.turn-row.ensures),
-      λ j h. get_or-set_other at.out at.r j c.turn-row.result [] (λ e. omega arith) ∙ at.invariant.2 j (omega arith),
+          (subst (λ (x : List ℕ). RowTurned x pivot d args.p c.turn_row.result) (at.invariant.2 at.r (omega arith)) c.turn_row.ensures),
+      λ j h. get_or-set_other at.out at.r j c.turn_row.result [] (λ e. omega arith) ∙ at.invariant.2 j (omega arith),
     )
 
 returns : tie.Need-returns invariant-loop decreases-loop
 returns c =
     let args = c.before.before.before.before.before.args in
     let unit = c.before.before.unit_row in
-    let d = c.before.before.before.inverse in
-    subst (λ (x : ℕ). SystemTurned args.k args.t1 args.p x c.before.loop.out) d.ensures
-    (system_turned args.k args.t1 c.before.loop.out args.p d.result unit.result (search rules) (search rules) unit.ensures.0
+    let d = c.before.before.before.inverse-d in
+    subst (λ (x : ℕ). SystemTurned args.k args.t1 args.p x c.before.loop-r.out) d.ensures
+    (system_turned args.k args.t1 c.before.loop-r.out args.p d.result unit.result (search rules) (search rules) unit.ensures.0
     unit.ensures.1 (search rules) (search rules)
-    (λ j h. c.before.loop.invariant.1.each j (omega arith)))
+    (λ j h. c.before.loop-r.invariant.1.each j (omega arith)))
 
 pub turn_spec : {M : Type 1} → statement M
 turn_spec = tie.close (tie.spec invariant-loop decreases-loop (λ c. search rules) (λ c. search rules) (λ c. search rules) (λ c κs. search rules)

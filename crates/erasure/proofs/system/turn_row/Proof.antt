@@ -13,8 +13,8 @@ use Rattle.erasure.proofs.system.turn_row.Tie as tie
 returns : tie.Need-returns
 returns c =
     let args = c.before.before.args in
-    let w = c.before.mul in
-    let sum = c.add_row in
+    let w = c.before.mul-w in
+    let sum = c.add_row-out in
     record {
       here = get_or-set_same sum.result args.p w.result 0 (search rules) ∙ w.ensures;
       there = λ j h ne.
@@ -22,5 +22,5 @@ returns c =
           ∙ ap (λ (u : ℕ). bit_xor (get_or args.t1 j 0) (times u (get_or args.pivot j 0))) w.ensures;
     }
 
-pub turn-row-spec : {M : Type 1} → statement M
-turn-row-spec = tie.close (tie.spec (λ c. search rules) (λ c κs. search rules) (λ c κs. search rules) (λ c. search rules) returns)
+pub turn_row_spec : {M : Type 1} → statement M
+turn_row_spec = tie.close (tie.spec (λ c. search rules) (λ c κs. search rules) (λ c κs. search rules) (λ c. search rules) returns)

@@ -14,5 +14,5 @@ returns c = (
   λ j h ne. get_or-set_other (replicate system_row 0) c.args.p j 1 0 ne ∙ get_or-replicate system_row j 0 0 (omega arith),
 )
 
-pub unit-row-spec : {M : Type 1} → statement M
-unit-row-spec = tie.close (tie.spec (λ c. search rules) returns)
+pub unit_row_spec : {M : Type 1} → statement M
+unit_row_spec = tie.close (tie.spec (λ c. search rules) returns)

@@ -17,56 +17,56 @@ use Rattle.erasure.proofs.Standing.{places_stand, one_missing}
 use Rattle.erasure.proofs.weighing.made.Statement.{statement}
 use Rattle.erasure.proofs.weighing.made.Tie as tie
 
-abbrev invariant-loop : tie.invariant-loop
+abbrev invariant-loop : tie.invariant-loop-i
 invariant-loop points k places a out₀ i₀ out i = (i ≤ k) × RunWritten (replicate rows_room 0) out 0 (i * k) (made_at k a places points)
 
-abbrev decreases-loop : tie.decreases-loop
+abbrev decreases-loop : tie.decreases-loop-i
 decreases-loop points k places a out₀ i₀ out i = k - i
 
-places-of-requires : tie.Need-places-of-requires invariant-loop decreases-loop
+places-of-requires : tie.Need-places_of-places-requires invariant-loop decreases-loop
 places-of-requires c κs = let pre = c.before.requires in (pre.1, pre.2)
 
-system-of-requires : tie.Need-system-of-requires invariant-loop decreases-loop
+system-of-requires : tie.Need-system_of-a-requires invariant-loop decreases-loop
 system-of-requires c κs = let pre = c.before.before.requires in (pre.1, pre.3)
 
-loop-holds : tie.Need-loop-init invariant-loop decreases-loop
+loop-holds : tie.Need-loop-i-init invariant-loop decreases-loop
 loop-holds c =
     let args = c.before.before.before.args in
-    let g : ℕ → ℕ = made_at args.k c.system-of.result c.before.places_of.result args.points.now in
+    let g : ℕ → ℕ = made_at args.k c.system_of-a.result c.before.places_of-places.result args.points.now in
     (search rules, subst (λ (x : ℕ). RunWritten (replicate rows_room 0) (replicate rows_room 0) 0 x g) (sym (zero-mul args.k)) (written_none _ _ g))
 
 -- Places far back, each named once: the place, and from where it is seen.
-abbrev loop-from-out : tie.After-out invariant-loop decreases-loop → tie.At-loop invariant-loop decreases-loop
+abbrev loop-from-out : tie.After-out-1 invariant-loop decreases-loop → tie.At-loop-i invariant-loop decreases-loop
 loop-from-out c = c.before.before.before.before.before
 
-abbrev start-from-loop : tie.At-loop invariant-loop decreases-loop → tie.Start invariant-loop decreases-loop
+abbrev start-from-loop : tie.At-loop-i invariant-loop decreases-loop → tie.Start invariant-loop decreases-loop
 start-from-loop c = c.before.before.before.before
 
-row_fits : (c : tie.After-out invariant-loop decreases-loop) → let l = loop-from-out c in l.loop.i * (start-from-loop l).args.k + (start-from-loop l).args.k ≤ rows_room
+row_fits : (c : tie.After-out-1 invariant-loop decreases-loop) → let l = loop-from-out c in l.loop.i * (start-from-loop l).args.k + (start-from-loop l).args.k ≤ rows_room
 row_fits c =
     let l = loop-from-out c in
     row_below (start-from-loop l).args.k l.loop.i (start-from-loop l).pre.1 (omega arith)
 
-slice-aggregate-copy-2 : tie.Need-slice-aggregate-copy-2 invariant-loop decreases-loop
+slice-aggregate-copy-2 : tie.Need-slice_bounds-copy-end-in-loop-i invariant-loop decreases-loop
 slice-aggregate-copy-2 c = sym (loop-from-out c).loop.invariant.1.long
 
-mul-copy : tie.Need-overflow-mul-copy invariant-loop decreases-loop
+mul-copy : tie.Need-overflow_mul-i invariant-loop decreases-loop
 mul-copy c = omega (arith, row_fits c)
 
 copy-requires : tie.Need-copy-requires invariant-loop decreases-loop
 copy-requires c κs =
-    let l : length c.before.before.row_of.result ≡ width = search rules in
+    let l : length c.before.before.row_of-row.result ≡ width = search rules in
     let start = start-from-loop (loop-from-out c) in
     (omega (arith, l, start.pre.1), omega (arith, row_fits c, (loop-from-out c).loop.invariant.1.long))
 
-loop-again : tie.Need-loop-preserved invariant-loop decreases-loop
+loop-again : tie.Need-loop-i-preserved invariant-loop decreases-loop
 loop-again c =
     let at_out = c.before.before in
     let at-loop = loop-from-out at_out in
     let start = start-from-loop at-loop in
     let args = start.args in
     let l = at-loop.loop in
-    let row = at_out.before.before.row_of in (
+    let row = at_out.before.before.row_of-row in (
       search rules,
       row_more args.k l.i at-loop.before.system-of.result at-loop.before.before.places_of.result args.points.now
           row.result (replicate rows_room 0) l.out _ (omega arith) row.ensures l.inv.1 c.before.copy.ensures,
@@ -79,11 +79,11 @@ returns c =
     let args = start.args in
     let pre = start.pre in
     let k = args.k in
-    let l = at-loop.loop in
-    let a = at-loop.before.system-of in
-    let places = at-loop.before.before.places_of in
+    let l = at-loop.loop-i in
+    let a = at-loop.before.system_of-a in
+    let places = at-loop.before.before.places_of-places in
     let points = args.points.now in
-    let small : (j : ℕ) → get_or points j 0 < 256 = λ j. (at-loop.before.before.before.shared-slice-known.given j).fits in
+    let small : (j : ℕ) → get_or points j 0 < 256 = λ j. (at-loop.before.before.before.shared_slice_known-1.given j).fits in
     let given-small : (j : ℕ) → get_or args.given j 0 < 256 = λ j. (let f : Fits w8 (get_or args.given j 0) = search rules in f.fits) in
     let long : length args.given ≡ width = search rules in
     let wide : length places.result ≡ width = search rules in
@@ -95,7 +95,7 @@ returns c =
     (λ i h past. a.ensures.solved (one_missing k places.result placed i h past))
     (subst (λ (x : ℕ). RunWritten (replicate rows_room 0) l.out 0 (x * k) (made_at k a.result places.result points)) end l.invariant.1)
 
-pub made-spec : {M : Type 1} → statement M
-made-spec = tie.close (tie.spec invariant-loop decreases-loop places-of-requires system-of-requires loop-holds (λ c. search rules) (λ c. search rules)
+pub made_spec : {M : Type 1} → statement M
+made_spec = tie.close (tie.spec invariant-loop decreases-loop places-of-requires system-of-requires loop-holds (λ c. search rules) (λ c. search rules)
     (λ c. search rules) (λ c κs. search rules) (λ c. search rules) slice-aggregate-copy-2 mul-copy copy-requires (λ c. search rules)
     (λ c. search rules) loop-again returns)

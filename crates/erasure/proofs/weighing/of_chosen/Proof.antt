@@ -14,7 +14,7 @@ use Rattle.erasure.proofs.Chosen.{points-differ}
 use Rattle.erasure.proofs.weighing.of_chosen.Statement.{statement}
 use Rattle.erasure.proofs.weighing.of_chosen.Tie as tie
 
-points-of-requires : tie.Need-points-of-requires
+points-of-requires : tie.Need-points_of-given-requires
 points-of-requires c κs = let pre = c.before.before.requires in (pre.1, pre.5)
 
 made-requires : tie.Need-made-requires
@@ -25,8 +25,8 @@ made-requires c κs =
       pre.0,
       pre.1,
       pre.2,
-      points-differ k start.args.points.now start.args.c.servers c.points-of.result pre.3 pre.4
-          pre.5 c.points-of.ensures,
+      points-differ k start.args.points.now start.args.c.servers c.points_of-given.result pre.3 pre.4
+          pre.5 c.points_of-given.ensures,
     )
 
 returns : tie.Need-returns
@@ -36,7 +36,7 @@ returns c =
     let k = start.args.c.count in
     let all = start.args.points.now in
     let servers = start.args.c.servers in
-    let given = c.before.points-of in
+    let given = c.before.points_of-given in
     let long : length given.result ≡ width = search rules in
     let ls : length servers ≡ width = search rules in
     let full : length (take k servers) ≡ k = length-take-le k servers (omega (arith, ls, pre.1)) in
@@ -46,5 +46,5 @@ returns c =
     (λ j b. given.ensures j b
     ∙ sym (get_d_map (point_of all) (take k servers) j 0 0 (omega (arith, full, b)) ∙ ap (point_of all) (get_or-take k servers j 0 b))))
 
-pub of-chosen-spec : {M : Type 1} → statement M
-of-chosen-spec = tie.close (tie.spec points-of-requires made-requires returns)
+pub of_chosen_spec : {M : Type 1} → statement M
+of_chosen_spec = tie.close (tie.spec points-of-requires made-requires returns)

@@ -10,7 +10,7 @@ use Rattle.erasure.proofs.RowsMade.{row_below}
 use Rattle.erasure.proofs.weighing.row_at.Statement.{statement}
 use Rattle.erasure.proofs.weighing.row_at.Tie as tie
 
-mul-copy : tie.Need-overflow-mul-copy
+mul-copy : tie.Need-overflow_mul-i
 mul-copy c = let start = c.before in omega (arith, row_below start.args.k start.args.i start.requires.0 start.requires.1)
 
 copy-requires : tie.Need-copy-requires
@@ -24,5 +24,5 @@ returns c j h =
     let args = c.before.before.before.before.args in
     written_at _ _ args.k (λ m. get_or args.t1 (args.i * args.k + m) 0) c.before.copy.ensures j h
 
-pub row-at-spec : {M : Type 1} → statement M
-row-at-spec = tie.close (tie.spec (λ c. search rules) mul-copy (λ c. search rules) copy-requires returns)
+pub row_at_spec : {M : Type 1} → statement M
+row_at_spec = tie.close (tie.spec (λ c. search rules) mul-copy (λ c. search rules) copy-requires returns)

@@ -14,9 +14,9 @@ returns c =
     let small : k < 255 = omega arith in
     (logs-lt k small, logs_at k small ∙ omega arith)
 
-cast-result : tie.Need-overflow-cast-result
+cast-result : tie.Need-overflow_cast-result-2
 unfolding logs
 cast-result c = let h = logs-lt (c.args.a - 1) (omega arith) in search rules
 
-pub log-of-spec : {M : Type 1} → statement M
-log-of-spec = tie.close (tie.spec (λ c. search rules) (λ c. search rules) cast-result returns)
+pub log_of_spec : {M : Type 1} → statement M
+log_of_spec = tie.close (tie.spec (λ c. search rules) (λ c. search rules) cast-result returns)

@@ -40,22 +40,22 @@ placed-all {out} p = (rule, p.first)
         let e : get_or out (suc k) 0 ≡ get_or logs k 0 = rw add-one at (p.each k (omega arith)) in
         rw e (logs-lt k (omega arith), logs_at k (omega arith))
 
-abbrev invariant-loop : tie.invariant-loop
+abbrev invariant-loop : tie.invariant-loop-k
 invariant-loop table out₀ k₀ out k = (k ≤ 255) × Placed k out
 
-abbrev decreases-loop : tie.decreases-loop
+abbrev decreases-loop : tie.decreases-loop-k
 decreases-loop table out₀ k₀ out k = 255 - k
 
-loop-holds : tie.Need-loop-init invariant-loop decreases-loop
+loop-holds : tie.Need-loop-k-init invariant-loop decreases-loop
 loop-holds c = (omega arith, record { size = length-replicate {A = ℕ} 256 0; first = refl; each = λ k l. absurd (omega arith) })
 
-loop-again : tie.Need-loop-preserved invariant-loop decreases-loop
+loop-again : tie.Need-loop-k-preserved invariant-loop decreases-loop
 unfolding logs
-loop-again c = (omega arith, placed-more c.before.loop.invariant.1 (omega arith) refl)
+loop-again c = (omega arith, placed-more c.before.loop-k.invariant.1 (omega arith) refl)
 
 returns : tie.Need-returns invariant-loop decreases-loop
-returns c = let e : c.before.loop.k ≡ 255 = omega arith in placed-all (rw e at c.before.loop.invariant.1)
+returns c = let e : c.before.loop-k.k ≡ 255 = omega arith in placed-all (rw e at c.before.loop-k.invariant.1)
 
-pub logs-spec : {M : Type 1} → statement M
-logs-spec = tie.close (tie.spec invariant-loop decreases-loop loop-holds (λ c. search rules) (λ c. search rules) (λ c. search rules) (λ c. search rules)
+pub logs_spec : {M : Type 1} → statement M
+logs_spec = tie.close (tie.spec invariant-loop decreases-loop loop-holds (λ c. search rules) (λ c. search rules) (λ c. search rules) (λ c. search rules)
     (λ c. search rules) loop-again returns)

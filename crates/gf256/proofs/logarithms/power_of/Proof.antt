@@ -8,5 +8,5 @@ returns : tie.Need-returns
 unfolding powers
 returns c = powers_at c.args.i (search rules)
 
-pub power-of-spec : {M : Type 1} → statement M
-power-of-spec = tie.close (tie.spec (λ c. search rules) returns)
+pub power_of_spec : {M : Type 1} → statement M
+power_of_spec = tie.close (tie.spec (λ c. search rules) returns)

@@ -7,5 +7,5 @@ returns : tie.Need-returns
 unfolding powers
 returns c = powers_at
 
-pub powers-spec : {M : Type 1} → statement M
-powers-spec = tie.close (tie.spec returns)
+pub powers_spec : {M : Type 1} → statement M
+powers_spec = tie.close (tie.spec returns)

@@ -23,13 +23,13 @@ module _ (a b : Stamp) where
   unfolding same_stamp
   by-tag e f = simp (eq-eqb a.number b.number e, eq-eqb a.writer b.writer f)
 
-returns : tie.Need-returns
-returns c = other-number _ _ c.if1.true
+returns : tie.Need-returns-then-self-other
+returns c = other-number _ _ c.if-self-other.true
 
-returns-2 : tie.Need-returns-2
-returns-2 c = other-writer _ _ (omega arith) c.if2.true
+returns-2 : tie.Need-returns-then-self-other-2
+returns-2 c = other-writer _ _ (omega arith) c.if-self-other-2.true
 
-returns-3 : tie.Need-returns-3
+returns-3 : tie.Need-returns
 returns-3 c = c.same_tag.ensures ∙ by-tag _ _ (omega arith) (omega arith)
 
 pub same_spec : {M : Type 1} → statement M

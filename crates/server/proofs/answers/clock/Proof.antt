@@ -8,10 +8,10 @@ returns : tie.Need-returns
 returns c =
     let at-part2 = c.before.before.before.before in
     let at-shared-slice-known = at-part2.before.before.before.before in
-    clock-answers at-shared-slice-known.before.args.memory.now (λ i. (at-shared-slice-known.shared-slice-known.given i).fits)
-    at-shared-slice-known.before.args.out.now at-shared-slice-known.before.args.head at-part2.part2.ensures
-    at-part2.before.part.ensures at-part2.before.before.reply-head.ensures c.before.before.make-packet.ensures
+    clock-answers at-shared-slice-known.before.args.memory.now (λ i. (at-shared-slice-known.shared_slice_known-1.given i).fits)
+    at-shared-slice-known.before.args.out.now at-shared-slice-known.before.args.head at-part2.part-2.ensures
+    at-part2.before.part.ensures at-part2.before.before.reply_head.ensures c.before.before.make_packet.ensures
 
-pub clock-spec : {M : Type 1} → statement M
-clock-spec = tie.close (tie.spec (λ c κs. search rules) (λ c κs. search rules) (λ c κs. search rules) (λ c κs. search rules) (λ c. search rules)
+pub clock_spec : {M : Type 1} → statement M
+clock_spec = tie.close (tie.spec (λ c κs. search rules) (λ c κs. search rules) (λ c κs. search rules) (λ c κs. search rules) (λ c. search rules)
     returns)

@@ -8,11 +8,11 @@ returns : tie.Need-returns
 returns c =
     let at-part2 = c.before.before.before.before in
     let at-shared-slice-known = at-part2.before.before.before.before.before in
-    collect-answers at-shared-slice-known.before.args.memory.now (λ i. (at-shared-slice-known.shared-slice-known.given i).fits)
+    collect-answers at-shared-slice-known.before.args.memory.now (λ i. (at-shared-slice-known.shared_slice_known-1.given i).fits)
     at-shared-slice-known.before.args.out.now at-shared-slice-known.before.args.head
-    at-part2.part2.ensures at-part2.before.before.candidate-size.ensures
-    at-part2.before.part.ensures at-part2.before.before.before.reply-head.ensures c.before.before.make-packet.ensures
+    at-part2.part-2.ensures at-part2.before.before.candidate_size.ensures
+    at-part2.before.part.ensures at-part2.before.before.before.reply_head.ensures c.before.before.make_packet.ensures
 
-pub collect-spec : {M : Type 1} → statement M
-collect-spec = tie.close (tie.spec (λ c κs. search rules) (λ c κs. search rules) (λ c κs. search rules) (λ c κs. search rules) (λ c κs. search rules)
+pub collect_spec : {M : Type 1} → statement M
+collect_spec = tie.close (tie.spec (λ c κs. search rules) (λ c κs. search rules) (λ c κs. search rules) (λ c κs. search rules) (λ c κs. search rules)
     (λ c. search rules) returns)

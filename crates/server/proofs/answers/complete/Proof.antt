@@ -9,12 +9,12 @@ returns c =
     let at-part2 = c.before.before.before.before in
     let at-raise = at-part2.before.before.before.before.before in
     let at-shared-slice-known = at-raise.before.before.before.before in
-    complete-answers at-shared-slice-known.before.before.args.memory.now (λ i. (at-shared-slice-known.before.slice-known.given
-    i).fits) at-shared-slice-known.before.before.args.packet.now (λ i. (at-shared-slice-known.shared-slice-known.given
+    complete-answers at-shared-slice-known.before.before.args.memory.now (λ i. (at-shared-slice-known.before.slice_known-1.given
+    i).fits) at-shared-slice-known.before.before.args.packet.now (λ i. (at-shared-slice-known.shared_slice_known-1.given
     i).fits) at-shared-slice-known.before.before.args.out.now at-shared-slice-known.before.before.args.head
-    at-raise.before.rest.ensures at-raise.raise.ensures at-part2.before.part.ensures at-part2.part2.ensures
-    at-part2.before.before.reply-head.ensures c.before.before.make-packet.ensures
+    at-raise.before.rest.ensures at-raise.raise.ensures at-part2.before.part.ensures at-part2.part-2.ensures
+    at-part2.before.before.reply_head.ensures c.before.before.make_packet.ensures
 
-pub complete-spec : {M : Type 1} → statement M
-complete-spec = tie.close (tie.spec (λ c κs. search rules) (λ c κs. search rules) (λ c κs. search rules) (λ c κs. search rules) (λ c κs. search rules)
+pub complete_spec : {M : Type 1} → statement M
+complete_spec = tie.close (tie.spec (λ c κs. search rules) (λ c κs. search rules) (λ c κs. search rules) (λ c κs. search rules) (λ c κs. search rules)
     (λ c κs. search rules) (λ c. search rules) (λ c. search rules) returns)

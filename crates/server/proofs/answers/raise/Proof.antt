@@ -4,21 +4,21 @@ use Rattle.server.proofs.Raising.{raise-higher, raise-other}
 use Rattle.server.proofs.answers.raise.Statement.{statement}
 use Rattle.server.proofs.answers.raise.Tie as tie
 
-returns : tie.Need-returns
+returns : tie.Need-returns-then-below
 returns c =
     let at-then1 = c.before.before.before.before in
     let b = at-then1.before.before.before in
     let a = b.before.before.before.before.before.args in
-    raise-higher a.memory.now a.candidate.now b.before.rest.ensures b.head_at.ensures
-    at-then1.before.before.head-at2.ensures at-then1.before.below.ensures at-then1.if1.true c.before.before.put.ensures
+    raise-higher a.memory.now a.candidate.now b.before.rest.ensures b.head_at-latest.ensures
+    at-then1.before.before.head_at-next.ensures at-then1.before.below.ensures at-then1.if-below.true c.before.before.put.ensures
 
-returns-2 : tie.Need-returns-2
+returns-2 : tie.Need-returns-else-below
 returns-2 c =
     let b = c.before.before.before in
     let a = b.before.before.before.before.before.args in
-    raise-other a.memory.now a.candidate.now b.before.rest.ensures b.head_at.ensures c.before.before.head-at2.ensures
-    c.before.below.ensures c.if1.false
+    raise-other a.memory.now a.candidate.now b.before.rest.ensures b.head_at-latest.ensures c.before.before.head_at-next.ensures
+    c.before.below.ensures c.if-below.false
 
-pub raise-spec : {M : Type 1} → statement M
-raise-spec = tie.close (tie.spec (λ c κs. search rules) (λ c κs. search rules) (λ c κs. search rules) (λ c κs. search rules) (λ c κs. search rules)
+pub raise_spec : {M : Type 1} → statement M
+raise_spec = tie.close (tie.spec (λ c κs. search rules) (λ c κs. search rules) (λ c κs. search rules) (λ c κs. search rules) (λ c κs. search rules)
     (λ c. search rules) returns (λ c. search rules) returns-2)

@@ -13,48 +13,48 @@ use Rattle.server.proofs.blank.blank.Tie as tie
 -- ---- what the tests say, at their places in the code
 
 -- Places far back, each named once: the place, and from where it is seen.
-abbrev start-from-else2 : tie.Else2 → tie.Start
+abbrev start-from-else2 : tie.Else-outside → tie.Start
 start-from-else2 c = c.before.before.before.before
 
-faults-in : (c : tie.Else2) → not (within 1 top_faults (start-from-else2 c).args.t) ≡ false
-faults-in c = sym c.before.outside.ensures ∙ c.if2.false
+faults-in : (c : tie.Else-outside) → not (within 1 top_faults (start-from-else2 c).args.t) ≡ false
+faults-in c = sym c.before.outside.ensures ∙ c.if-outside.false
 
-server-tested : (c : tie.After-outside2) → let a = (start-from-else2 c.before.before).args in not
-    (within 1 (shelf a.t).servers a.server) ≡ c.outside2.result
+server-tested : (c : tie.After-outside-2) → let a = (start-from-else2 c.before.before).args in not
+    (within 1 (shelf a.t).servers a.server) ≡ c.outside-2.result
 server-tested c = ap (λ (n : ℕ). not (within 1 n (start-from-else2 c.before.before).args.server))
-    (sym c.before.servers.ensures) ∙ sym c.outside2.ensures
+    (sym c.before.servers.ensures) ∙ sym c.outside-2.ensures
 
-server-in : (c : tie.Else3) → let a = (start-from-else2 c.before.before.before).args in not
+server-in : (c : tie.Else-outside-2) → let a = (start-from-else2 c.before.before.before).args in not
     (within 1 (shelf a.t).servers a.server) ≡ false
-server-in c = server-tested c.before ∙ c.if3.false
+server-in c = server-tested c.before ∙ c.if-outside-2.false
 
 -- ---- the needs
 
-returns : tie.Need-returns
+returns : tie.Need-returns-then-memory-ne-MEMORY
 returns c = let a = c.before.before.before.args in rw c.refused.ensures (blank-size a.memory.now a.t a.server
-    c.before.if1.true)
+    c.before.if-memory-ne-MEMORY.true)
 
-returns-2 : tie.Need-returns-2
+returns-2 : tie.Need-returns-then-outside
 returns-2 c =
     let a = c.before.before.before.before.before.args in
-    rw c.refused2.ensures
-    (blank-faults a.memory.now a.t a.server c.before.before.before.if1.false
-    (sym c.before.before.outside.ensures ∙ c.before.if2.true))
+    rw c.refused-then-outside.ensures
+    (blank-faults a.memory.now a.t a.server c.before.before.before.if-memory-ne-MEMORY.false
+    (sym c.before.before.outside.ensures ∙ c.before.if-outside.true))
 
-cast-servers : tie.Need-overflow-cast-servers
+cast-servers : tie.Need-overflow_cast-t
 cast-servers c = omega (arith, faults-byte (start-from-else2 c).args.t (faults-in c))
 
-returns-3 : tie.Need-returns-3
+returns-3 : tie.Need-returns-then-outside-2
 returns-3 c =
     let at-else2 = c.before.before.before.before in
     let a = (start-from-else2 at-else2).args in
-    rw c.refused3.ensures (blank-server a.memory.now a.t a.server at-else2.before.before.if1.false
-    (faults-in at-else2) (server-tested c.before.before ∙ c.before.if3.true))
+    rw c.refused-then-outside-2.ensures (blank-server a.memory.now a.t a.server at-else2.before.before.if-memory-ne-MEMORY.false
+    (faults-in at-else2) (server-tested c.before.before ∙ c.before.if-outside-2.true))
 
-abbrev else3-from-slice-known2 : tie.After-slice-known2 → tie.Else3
+abbrev else3-from-slice-known2 : tie.After-slice_known-2-1 → tie.Else-outside-2
 else3-from-slice-known2 c = c.before.before.before.before
 
-cast-memory : tie.Need-overflow-cast-memory
+cast-memory : tie.Need-overflow_cast-memory
 cast-memory c =
     let at-else3 = else3-from-slice-known2 c in
     let at-else2 = at-else3.before.before.before in
@@ -63,7 +63,7 @@ cast-memory c =
       faults-byte (start-from-else2 at-else2).args.t (faults-in at-else2),
     )
 
-cast-memory-2 : tie.Need-overflow-cast-memory-2
+cast-memory-2 : tie.Need-overflow_cast-memory-2
 cast-memory-2 c =
     let at-else3 = else3-from-slice-known2 c in
     let at-else2 = at-else3.before.before.before in
@@ -73,7 +73,7 @@ cast-memory-2 c =
       server-byte a.t a.server (faults-in at-else2) (server-in at-else3),
     )
 
-returns-4 : tie.Need-returns-4
+returns-4 : tie.Need-returns
 returns-4 c =
     let at-else3 = else3-from-slice-known2 c in
     let at-else2 = at-else3.before.before.before in
@@ -81,8 +81,8 @@ returns-4 c =
     blank-made a.memory.now a.t a.server at-else2.before.before.if1.left (faults-in at-else2) (server-in at-else3)
     c.before.before.clear.ensures
 
-pub blank-spec : {M : Type 1} → statement M
-blank-spec = tie.close (tie.spec (λ c κs. search rules) returns (λ c κs. search rules) (λ c κs. search rules) returns-2 cast-servers
+pub blank_spec : {M : Type 1} → statement M
+blank_spec = tie.close (tie.spec (λ c κs. search rules) returns (λ c κs. search rules) (λ c κs. search rules) returns-2 cast-servers
     (λ c κs. search rules)
     (λ c κs. search rules) (λ c κs. search rules) returns-3 (λ c κs. search rules) cast-memory (λ c. search rules) cast-memory-2 (λ c. search rules)
     (λ c. search rules) returns-4)

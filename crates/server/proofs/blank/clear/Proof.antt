@@ -9,31 +9,31 @@ use borrow.Author.Fill.{fill_more}
 use Rattle.server.proofs.blank.clear.Statement.{statement}
 use Rattle.server.proofs.blank.clear.Tie as tie
 
-abbrev invariant-loop : tie.invariant-loop
+abbrev invariant-loop : tie.invariant-loop-i
 invariant-loop memory₀ i₀ memory i = (i ≤ length memory₀) × (length memory ≡ length memory₀) × (memory ≡ replicate i 0 ++ drop i memory₀)
 
-abbrev decreases-loop : tie.decreases-loop
+abbrev decreases-loop : tie.decreases-loop-i
 decreases-loop memory₀ i₀ memory i = length memory₀ - i
 
-loop-holds : tie.Need-loop-init invariant-loop decreases-loop
+loop-holds : tie.Need-loop-i-init invariant-loop decreases-loop
 loop-holds c = (omega arith, refl, refl)
 
-loop-again : tie.Need-loop-preserved invariant-loop decreases-loop
+loop-again : tie.Need-loop-i-preserved invariant-loop decreases-loop
 loop-again c = (
   omega arith,
-  simp length-set c.before.loop.invariant.1,
-  ap (λ (z : List ℕ). set z c.before.loop.i 0) c.before.loop.invariant.2 ∙ fill_more c.before.loop.i 0
+  simp length-set c.before.loop-i.invariant.1,
+  ap (λ (z : List ℕ). set z c.before.loop-i.i 0) c.before.loop-i.invariant.2 ∙ fill_more c.before.loop-i.i 0
       c.before.before.args.memory.now (omega arith),
 )
 
-same_length : tie.Need-same-length invariant-loop decreases-loop
-same_length c = c.before.loop.invariant.1
+same_length : tie.Need-shape_of-memory invariant-loop decreases-loop
+same_length c = c.before.loop-i.invariant.1
 
 returns : tie.Need-returns invariant-loop decreases-loop
 returns c =
     let d = c.before.before.args.memory.now in
-    let e : c.before.loop.i ≡ length d = omega arith in
-    c.before.loop.invariant.2 ∙ rw (e, drop-length) (append-nil (replicate (length d) 0))
+    let e : c.before.loop-i.i ≡ length d = omega arith in
+    c.before.loop-i.invariant.2 ∙ rw (e, drop-length) (append-nil (replicate (length d) 0))
 
 pub clear_spec : {M : Type 1} → statement M
 clear_spec = tie.close (tie.spec invariant-loop decreases-loop loop-holds (λ c. omega arith) (λ c. omega arith) (λ c. omega arith) loop-again same_length returns)

@@ -10,53 +10,53 @@ use Rattle.server.proofs.Trying.{Trying, try-under, try_none, try-found, none_fr
 use Rattle.server.proofs.filter.choose_under.Statement.{statement}
 use Rattle.server.proofs.filter.choose_under.Tie as tie
 
-abbrev invariant-loop : tie.invariant-loop
+abbrev invariant-loop : tie.invariant-loop-rank
 invariant-loop memory prepared opened list count bound rank₀ rank =
     (key : List ℕ) → prepared ≡ prepared_of key → NoneFrom memory key opened list count bound → Trying memory key opened list count rank
 
-abbrev decreases-loop : tie.decreases-loop
+abbrev decreases-loop : tie.decreases-loop-rank
 decreases-loop memory prepared opened list count bound rank₀ rank = rank
 
-loop-holds : tie.Need-loop-init invariant-loop decreases-loop
+loop-holds : tie.Need-loop-rank-init invariant-loop decreases-loop
 loop-holds c =
     let a = c.before.before.before.args in
-    λ key made none. try-under a.memory.now key a.opened a.list.now a.count none c.next-rank.ensures
+    λ key made none. try-under a.memory.now key a.opened a.list.now a.count none c.next_rank-rank.ensures
 
 -- Places far back, each named once: the place, and from where it is seen.
-abbrev start-from-slot-with : tie.After-slot-with invariant-loop decreases-loop → tie.Start invariant-loop decreases-loop
+abbrev start-from-slot-with : tie.After-slot_with-i invariant-loop decreases-loop → tie.Start invariant-loop decreases-loop
 start-from-slot-with c = c.before.before.before.before.before.before
 
-returns : tie.Need-returns invariant-loop decreases-loop
+returns : tie.Need-returns-then-valid_prepared invariant-loop decreases-loop
 returns c =
     let at-slot-with = c.before.before.before in
     let a = (start-from-slot-with at-slot-with).args in
     λ key made none. try-found a.memory.now key a.opened a.list.now a.count (omega arith)
-    (at-slot-with.before.before.loop.invariant key made none) (omega arith) c.before.before.before.slot-with.ensures
-    c.before.before.slot.ensures (c.before.valid-prepared.ensures key made) c.if1.true
+    (at-slot-with.before.before.loop-rank.invariant key made none) (omega arith) c.before.before.before.slot_with-i.ensures
+    c.before.before.slot.ensures (c.before.valid_prepared.ensures key made) c.if-valid_prepared.true
 
-abbrev slot-with-from-next-rank2 : tie.After-next-rank2 invariant-loop decreases-loop → tie.After-slot-with invariant-loop decreases-loop
+abbrev slot-with-from-next-rank2 : tie.After-next_rank-rank-in-loop-rank invariant-loop decreases-loop → tie.After-slot_with-i invariant-loop decreases-loop
 slot-with-from-next-rank2 c = c.before.before.before.before
 
-loop-less : tie.Need-loop-smaller invariant-loop decreases-loop
+loop-less : tie.Need-loop-rank-smaller invariant-loop decreases-loop
 loop-less c =
     let a = (start-from-slot-with (slot-with-from-next-rank2 c)).args in
-    next_less a.opened.t a.list.now a.count (omega arith) c.next-rank2.ensures
+    next_less a.opened.t a.list.now a.count (omega arith) c.next_rank-rank-in-loop-rank.ensures
 
-loop-again : tie.Need-loop-preserved invariant-loop decreases-loop
+loop-again : tie.Need-loop-rank-preserved invariant-loop decreases-loop
 loop-again c =
     let at-slot-with = slot-with-from-next-rank2 c in
     let a = (start-from-slot-with at-slot-with).args in
     λ key made none. try-under a.memory.now key a.opened a.list.now a.count
     (none_from a.memory.now key a.opened a.list.now a.count (omega arith)
     (at-slot-with.before.before.loop.inv key made none) (omega arith) at-slot-with.slot-with.ensures
-    c.before.before.before.slot.ensures (c.before.before.valid-prepared.ensures key made) c.before.if1.false) c.next-rank2.ensures
+    c.before.before.before.slot.ensures (c.before.before.valid_prepared.ensures key made) c.before.if-valid_prepared.false) c.next_rank-rank-in-loop-rank.ensures
 
-returns-2 : tie.Need-returns-2 invariant-loop decreases-loop
+returns-2 : tie.Need-returns invariant-loop decreases-loop
 returns-2 c =
     let a = c.before.before.before.before.before.args in
     λ key made none. try_none a.memory.now key a.opened a.list.now a.count (omega arith)
-    (c.before.loop.invariant key made none) (omega arith)
+    (c.before.loop-rank.invariant key made none) (omega arith)
 
-pub choose-under-spec : {M : Type 1} → statement M
-choose-under-spec = tie.close (tie.spec invariant-loop decreases-loop (λ c κs. search rules) loop-holds (λ c κs. search rules) (λ c κs. search rules)
+pub choose_under_spec : {M : Type 1} → statement M
+choose_under_spec = tie.close (tie.spec invariant-loop decreases-loop (λ c κs. search rules) loop-holds (λ c κs. search rules) (λ c κs. search rules)
     (λ c κs. search rules) returns (λ c κs. search rules) loop-less loop-again returns-2)

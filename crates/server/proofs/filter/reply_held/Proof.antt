@@ -5,21 +5,21 @@ use Rattle.server.proofs.filter.reply_held.Statement.{statement}
 use Rattle.server.proofs.filter.reply_held.Tie as tie
 
 -- Places far back, each named once: the place, and from where it is seen.
-abbrev shared-slice-known-from-find : tie.After-find → tie.After-shared-slice-known
+abbrev shared-slice-known-from-find : tie.After-find → tie.After-shared_slice_known-1
 shared-slice-known-from-find c = c.before.before.before.before
 
-returns : tie.Need-returns
+returns : tie.Need-returns-in_default
 returns c =
     let at_part = c.before.before.before.before in
     let at-find = at_part.before.before.before.before.before in
     let at-shared-slice-known = shared-slice-known-from-find at-find in
     let a = at-shared-slice-known.before.args in
     held-nothing a.memory.now (λ i. (at-shared-slice-known.shared-slice-known.given i).fits) a.head a.opened a.stamp a.out.now
-    at-find.before.before.held-head.ensures at-find.find.result at-find.find.ensures
-    at_part.before.before.before.enum_told.given.1 at_part.part.ensures
-    at_part.before.before.reply-head.ensures c.before.before.make-packet.ensures
+    at-find.before.before.held_head-nothing.ensures at-find.find.result at-find.find.ensures
+    at_part.before.before.before.enum_told-1.given.1 at_part.part.ensures
+    at_part.before.before.reply_head.ensures c.before.before.make_packet.ensures
 
-returns-2 : tie.Need-returns-2
+returns-2 : tie.Need-returns
 returns-2 c =
     let at-share-bytes = c.before.before.before.before in
     let at_at = at-share-bytes.before.before.before.before.before in
@@ -27,11 +27,11 @@ returns-2 c =
     let at-shared-slice-known = shared-slice-known-from-find at-find in
     let a = at-shared-slice-known.before.args in
     held_share a.memory.now (λ i. (at-shared-slice-known.shared-slice-known.given i).fits) a.head a.opened a.stamp a.out.now
-    at-find.before.before.held-head.ensures at-find.find.result at-find.find.ensures at_at.at.given.1
-    at-share-bytes.before.before.before.held-head2.ensures at-share-bytes.share-bytes.ensures
-    at-share-bytes.before.before.reply-head2.ensures c.before.before.make-packet2.ensures
+    at-find.before.before.held_head-nothing.ensures at-find.find.result at-find.find.ensures at_at.at-1.given.1
+    at-share-bytes.before.before.before.held_head-bytes.ensures at-share-bytes.share_bytes.ensures
+    at-share-bytes.before.before.reply_head-2.ensures c.before.before.make_packet-2.ensures
 
-pub reply-held-spec : {M : Type 1} → statement M
-reply-held-spec = tie.close (tie.spec (λ c κs. search rules) (λ c. search rules) (λ c κs. search rules) (λ c. search rules) (λ c. search rules)
+pub reply_held_spec : {M : Type 1} → statement M
+reply_held_spec = tie.close (tie.spec (λ c κs. search rules) (λ c. search rules) (λ c κs. search rules) (λ c. search rules) (λ c. search rules)
     (λ c κs. search rules) (λ c. search rules) (λ c κs. search rules) (λ c κs. search rules) (λ c. search rules) returns (λ c κs. search rules)
     (λ c κs. search rules) (λ c. search rules) (λ c κs. search rules) (λ c κs. search rules) (λ c. search rules) returns-2)

@@ -6,7 +6,7 @@ use Rattle.server.proofs.filter.share_size.Tie as tie
 
 returns : tie.Need-returns
 returns c = size-made c.before.before.before.args.t c.before.before.before.args.share.now c.before.number2.ensures
-    c.share-size.ensures
+    c.share_size.ensures
 
-pub share-size-spec : {M : Type 1} → statement M
-share-size-spec = tie.close (tie.spec (λ c κs. search rules) (λ c κs. search rules) returns)
+pub share_size_spec : {M : Type 1} → statement M
+share_size_spec = tie.close (tie.spec (λ c κs. search rules) (λ c κs. search rules) returns)

@@ -5,11 +5,11 @@ use Rattle.server.proofs.Finding.{max_is_left, max_is_right}
 use Rattle.server.proofs.memory.max_of.Statement.{statement}
 use Rattle.server.proofs.memory.max_of.Tie as tie
 
-returns : tie.Need-returns
+returns : tie.Need-returns-then-a-b
 returns c = sym (max_is_right _ _ (omega arith))
 
-returns-2 : tie.Need-returns-2
+returns-2 : tie.Need-returns
 returns-2 c = sym (max_is_left _ _ (omega arith))
 
-pub max-of-spec : {M : Type 1} → statement M
-max-of-spec = tie.close (tie.spec returns returns-2)
+pub max_of_spec : {M : Type 1} → statement M
+max_of_spec = tie.close (tie.spec returns returns-2)

@@ -15,112 +15,112 @@ use Rattle.server.proofs.memory.open.Tie as tie
 
 -- ---- what the readers let through
 
-module _ (c : tie.After-t) where
+module _ (c : tie.In-Value-2) where
   abbrev memory : List ℕ
   memory = c.before.before.before.before.args.memory.now
 
   abbrev t : ℕ
-  t = c.t.given.0.0
+  t = c.t-1.given.0.0
 
   abbrev past-t : ℕ
-  past-t = c.t.given.0.1.0.at
+  past-t = c.t-1.given.0.1.0.at
 
   size_is : length memory ≡ memory_size
   size_is = c.before.before.before.before.requires
 
   t-took : TookAt (byte_l 1 top_faults) memory 0 t past-t
-  t-took = rw c.t.given.1 at c.before.before.byte-field.ensures
+  t-took = rw c.t-1.given.1 at c.before.before.byte_field.ensures
 
 -- Places far back, each named once: the place, and from where it is seen.
-abbrev t-from-server : tie.After-server → tie.After-t
+abbrev t-from-server : tie.In-Value-byte_field-3 → tie.In-Value-2
 t-from-server c = c.before.before.before.before.before
 
-module _ (c : tie.After-server) where
-  abbrev after-t : tie.After-t
+module _ (c : tie.In-Value-byte_field-3) where
+  abbrev after-t : tie.In-Value-2
   after-t = t-from-server c
 
   abbrev servers : ℕ
-  servers = c.before.before.before.servers.result
+  servers = c.before.before.before.servers-servers.result
 
   abbrev past-server : ℕ
-  past-server = c.server.given.0.1.0.at
+  past-server = c.server-1.given.0.1.0.at
 
   servers-are : servers ≡ (shelf (t after-t)).servers
-  servers-are = c.before.before.before.servers.ensures
+  servers-are = c.before.before.before.servers-servers.ensures
 
-  server-took : TookAt (byte_l 1 servers) (memory after-t) (past-t after-t) c.server.given.0.0 past-server
-  server-took = rw c.server.given.1 at c.before.before.byte-field2.ensures
+  server-took : TookAt (byte_l 1 servers) (memory after-t) (past-t after-t) c.server-1.given.0.0 past-server
+  server-took = rw c.server-1.given.1 at c.before.before.byte_field-2.ensures
 
-abbrev server-from-n : tie.After-n → tie.After-server
+abbrev server-from-n : tie.In-Value-byte_field-2-2 → tie.In-Value-byte_field-3
 server-from-n c = c.before.before.before.before
 
-module _ (c : tie.After-n) where
-  abbrev after-server : tie.After-server
+module _ (c : tie.In-Value-byte_field-2-2) where
+  abbrev after-server : tie.In-Value-byte_field-3
   after-server = server-from-n c
 
   abbrev past-n : ℕ
-  past-n = c.n.given.0.1.0.at
+  past-n = c.n-1.given.0.1.0.at
 
-  n-took : TookAt (byte_l 0 capacity) (memory (after-t after-server)) (past-server after-server) c.n.given.0.0 past-n
-  n-took = rw c.n.given.1 at c.before.before.byte-field3.ensures
+  n-took : TookAt (byte_l 0 capacity) (memory (after-t after-server)) (past-server after-server) c.n-1.given.0.0 past-n
+  n-took = rw c.n-1.given.1 at c.before.before.byte_field-3.ensures
 
-module _ (c : tie.After-c4) where
-  abbrev after-n : tie.After-n
+module _ (c : tie.In-Value-any_candidate_field-2) where
+  abbrev after-n : tie.In-Value-byte_field-2-2
   after-n = c.before.before.before.before
 
-  abbrev first : tie.After-t
+  abbrev first : tie.In-Value-2
   first = after-t (after-server after-n)
 
-  latest-took : TookLabelled (any_candidate_l (shelf (t first))) (memory first) (past-n after-n) c.c4.given.0.0 c.c4.given.0.1.0
-      c.c4.given.0.1.1.0.at
-  latest-took = rw c.c4.given.1 at c.before.before.any-candidate-field.ensures
+  latest-took : TookLabelled (any_candidate_l (shelf (t first))) (memory first) (past-n after-n) c.c4-1.given.0.0 c.c4-1.given.0.1.0
+      c.c4-1.given.0.1.1.0.at
+  latest-took = rw c.c4-1.given.1 at c.before.before.any_candidate_field.ensures
 
 -- ---- the needs
 
-returns : tie.Need-returns
-returns c = no-t c.before.before.before.before.requires (rw c.enum_told.given.1 at c.before.before.byte-field.ensures)
+returns : tie.Need-returns-in_default
+returns c = no-t c.before.before.before.before.requires (rw c.enum_told-1.given.1 at c.before.before.byte_field.ensures)
 
-cast-servers : tie.Need-overflow-cast-servers
+cast-servers : tie.Need-overflow_cast-t
 cast-servers c = omega (arith, (byte_range 1 top_faults (t-took c.before)).1)
 
-cast-byte-field-2 : tie.Need-overflow-cast-byte-field-2
-cast-byte-field-2 c = omega (arith, servers-most (byte_range 1 top_faults (t-took c.before.before)).1 c.servers.ensures)
+cast-byte-field-2 : tie.Need-overflow_cast-servers
+cast-byte-field-2 c = omega (arith, servers-most (byte_range 1 top_faults (t-took c.before.before)).1 c.servers-servers.ensures)
 
-returns-2 : tie.Need-returns-2
+returns-2 : tie.Need-returns-in_default-byte_field
 returns-2 c =
     let p = c.before.before.before.before.before in
-    no-server (size_is p) (t-took p) c.before.before.before.servers.ensures
-    (rw c.enum-told2.given.1 at c.before.before.byte-field2.ensures)
+    no-server (size_is p) (t-took p) c.before.before.before.servers-servers.ensures
+    (rw c.enum_told-in_default-byte_field-1.given.1 at c.before.before.byte_field-2.ensures)
 
-returns-3 : tie.Need-returns-3
+returns-3 : tie.Need-returns-in_default-byte_field-2
 returns-3 c =
     let s = c.before.before.before.before in
     no-count (size_is (after-t s)) (t-took (after-t s)) (servers-are s) (server-took s)
-    (rw c.enum-told3.given.1 at c.before.before.byte-field3.ensures)
+    (rw c.enum_told-in_default-byte_field-2-1.given.1 at c.before.before.byte_field-3.ensures)
 
-cast-any-candidate-field : tie.Need-overflow-cast-any-candidate-field
+cast-any-candidate-field : tie.Need-overflow_cast-t-2
 cast-any-candidate-field c = omega (
   arith,
   (byte_range 1 top_faults (t-took
       (t-from-server (server-from-n c.before)))).1,
 )
 
-returns-4 : tie.Need-returns-4
+returns-4 : tie.Need-returns-in_default-any_candidate_field
 returns-4 c =
     let m = c.before.before.before.before in
     let s = after-server m in
     no-latest (size_is (after-t s)) (t-took (after-t s)) (servers-are s) (server-took s) (n-took m)
-    (rw c.enum-told4.given.1 at c.before.before.any-candidate-field.ensures)
+    (rw c.enum_told-in_default-any_candidate_field-1.given.1 at c.before.before.any_candidate_field.ensures)
 
-cast-check-writes : tie.Need-overflow-cast-check-writes
+cast-check-writes : tie.Need-overflow_cast-t-3
 cast-check-writes c = omega (arith, (byte_range 1 top_faults (t-took (first c.before))).1)
 
-cast-check-writes-2 : tie.Need-overflow-cast-check-writes-2
+cast-check-writes-2 : tie.Need-overflow_cast-server
 cast-check-writes-2 c =
     let s = after-server (after-n c.before) in
     omega (arith, servers-most (byte_range 1 top_faults (t-took (after-t s))).1 (servers-are s), (byte_range 1 _ (server-took s)).1)
 
-check-writes-requires : tie.Need-check-writes-requires
+check-writes-requires : tie.Need-check_writes-requires
 check-writes-requires c κs =
     let l = c.before in
     let s = after-server (after-n l) in (
@@ -128,45 +128,45 @@ check-writes-requires c κs =
       (latest-took l).took.leaves.within,
     )
 
-returns-5 : tie.Need-returns-5
+returns-5 : tie.Need-returns-in_default-check_writes
 returns-5 c =
     let l = c.before.before.before.before in
     let s = after-server (after-n l) in
     no_writes (size_is (after-t s)) (t-took (after-t s)) (servers-are s) (server-took s) (n-took (after-n l))
-    (latest-took l).took (λ i. ((first l).before.before.before.shared-slice-known.given i).fits) c.enum-told5.given.1
-    c.before.before.check-writes.ensures
+    (latest-took l).took (λ i. ((first l).before.before.before.shared-slice-known.given i).fits) c.enum_told-in_default-check_writes-1.given.1
+    c.before.before.check_writes.ensures
 
-abbrev c4-from-end : tie.After-end → tie.After-c4
+abbrev c4-from-end : tie.In-Past-2 → tie.In-Value-any_candidate_field-2
 c4-from-end c = c.before.before.before.before
 
-abbrev end-from-then1 : tie.Then1 → tie.After-end
+abbrev end-from-then1 : tie.Then-all_zero → tie.In-Past-2
 end-from-then1 c = c.before.before.before.before
 
-cast-t24 : tie.Need-overflow-cast-t24
+cast-t24 : tie.Need-overflow_cast-result
 cast-t24 c = omega (arith, (byte_range 1 top_faults (t-took (first (c4-from-end (end-from-then1 c))))).1)
 
-cast-t25 : tie.Need-overflow-cast-t25
+cast-t25 : tie.Need-overflow_cast-result-then-all_zero
 cast-t25 c =
     let s = after-server (after-n (c4-from-end (end-from-then1 c))) in
     omega (arith, servers-most (byte_range 1 top_faults (t-took (after-t s))).1 (servers-are s), (byte_range 1 _ (server-took s)).1)
 
-returns-6 : tie.Need-returns-6
+returns-6 : tie.Need-returns-then-all_zero
 returns-6 c =
     let at-end = c.before.before.before.before in
     let l = c4-from-end at-end in
     let s = after-server (after-n l) in
-    let w = rw at-end.end.given.1 at at-end.before.before.check-writes.ensures in
+    let w = rw at-end.end-1.given.1 at at-end.before.before.check_writes.ensures in
     opens (size_is (after-t s)) (t-took (after-t s)) (servers-are s) (server-took s) (n-took (after-n l)) (latest-took l).took w
-    c.before.before.rest.ensures c.before.all-zero.ensures c.if1.true
+    c.before.before.rest.ensures c.before.all_zero.ensures c.if-all_zero.true
 
-returns-7 : tie.Need-returns-7
+returns-7 : tie.Need-returns
 returns-7 c =
     let at-end = c.before.before.before.before in
     let l = c4-from-end at-end in
     let s = after-server (after-n l) in
-    let w = rw at-end.end.given.1 at at-end.before.before.check-writes.ensures in
+    let w = rw at-end.end-1.given.1 at at-end.before.before.check_writes.ensures in
     no-tail (size_is (after-t s)) (t-took (after-t s)) (servers-are s) (server-took s) (n-took (after-n l))
-    (latest-took l).took w c.before.before.rest.ensures c.before.all-zero.ensures c.if1.false
+    (latest-took l).took w c.before.before.rest.ensures c.before.all_zero.ensures c.if-all_zero.false
 
 pub open_spec : {M : Type 1} → statement M
 open_spec = tie.close (tie.spec (λ c. search rules) (λ c κs. search rules) (λ c. search rules) (λ c. search rules) returns cast-servers

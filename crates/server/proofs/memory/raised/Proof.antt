@@ -4,11 +4,11 @@ use Rattle.server.proofs.Finding.{raised-higher, raised-same}
 use Rattle.server.proofs.memory.raised.Statement.{statement}
 use Rattle.server.proofs.memory.raised.Tie as tie
 
-returns : tie.Need-returns
-returns c = let a = c.before.before.args in sym (raised-higher a.top a.key a.at c.if1.true)
+returns : tie.Need-returns-then-top-key
+returns c = let a = c.before.before.args in sym (raised-higher a.top a.key a.at c.if-top-key.true)
 
-returns-2 : tie.Need-returns-2
-returns-2 c = let a = c.before.before.args in sym (raised-same a.top a.key a.at c.if1.false)
+returns-2 : tie.Need-returns
+returns-2 c = let a = c.before.before.args in sym (raised-same a.top a.key a.at c.if-top-key.false)
 
-pub raised-spec : {M : Type 1} → statement M
-raised-spec = tie.close (tie.spec returns returns-2)
+pub raised_spec : {M : Type 1} → statement M
+raised_spec = tie.close (tie.spec returns returns-2)

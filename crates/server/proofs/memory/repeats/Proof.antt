@@ -8,35 +8,35 @@ use Rattle.server.proofs.memory.repeats.Statement.{statement}
 use Rattle.server.proofs.memory.repeats.Tie as tie
 
 -- Places far back, each named once: the place, and from where it is seen.
-abbrev known-from-else1 : tie.Else1 → tie.After-shared-slice-known
+abbrev known-from-else1 : tie.Else-top-key → tie.After-shared_slice_known-1
 known-from-else1 c = c.before.before.before
 
-returns : tie.Need-returns
+returns : tie.Need-returns-then-top-key
 returns c =
     let at-known = c.before.before.before in
     let a = at-known.before.args in
     let x = drop a.read.end a.memory.now in
-    repeats_none a.memory.now a.read (λ i. (at-known.shared-slice-known.given i).fits) refl refl
-    (find-above a.memory.now a.read x refl at-known.before.requires c.if1.true)
+    repeats_none a.memory.now a.read (λ i. (at-known.shared_slice_known-1.given i).fits) refl refl
+    (find-above a.memory.now a.read x refl at-known.before.requires c.if-top-key.true)
 
-find-ranked-requires : tie.Need-find-ranked-requires
+find-ranked-requires : tie.Need-find_ranked-requires
 find-ranked-requires c κs = rw c.rest.ensures (known-from-else1 c.before).before.requires
 
-returns-2 : tie.Need-returns-2
+returns-2 : tie.Need-returns-in_default
 returns-2 c =
     let at_rest = c.before.before.before in
     let at-known = known-from-else1 at_rest.before in
     let a = at-known.before.args in repeats-found a.memory.now a.read
-    (λ i. (at-known.shared-slice-known.given i).fits) at_rest.rest.ensures c.enum-told2.given.1
-    c.before.before.find-ranked.ensures
+    (λ i. (at-known.shared-slice-known.given i).fits) at_rest.rest.ensures c.enum_told-in_default-1.given.1
+    c.before.before.find_ranked.ensures
 
-returns-3 : tie.Need-returns-3
+returns-3 : tie.Need-returns
 returns-3 c =
     let at_rest = c.before.before.before in
     let at-known = known-from-else1 at_rest.before in
     let a = at-known.before.args in repeats_none a.memory.now a.read
-    (λ i. (at-known.shared-slice-known.given i).fits) at_rest.rest.ensures c.enum_told.given.1
-    c.before.before.find-ranked.ensures
+    (λ i. (at-known.shared-slice-known.given i).fits) at_rest.rest.ensures c.enum_told-1.given.1
+    c.before.before.find_ranked.ensures
 
-pub repeats-spec : {M : Type 1} → statement M
-repeats-spec = tie.close (tie.spec returns (λ c κs. search rules) find-ranked-requires (λ c. search rules) (λ c. search rules) returns-2 returns-3)
+pub repeats_spec : {M : Type 1} → statement M
+repeats_spec = tie.close (tie.spec returns (λ c κs. search rules) find-ranked-requires (λ c. search rules) (λ c. search rules) returns-2 returns-3)

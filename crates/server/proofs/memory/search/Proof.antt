@@ -14,29 +14,29 @@ use Rattle.server.proofs.Walk.{Walking, walk_none, walk_end, walk_short, walk-fo
 use Rattle.server.proofs.memory.search.Statement.{statement}
 use Rattle.server.proofs.memory.search.Tie as tie
 
-abbrev invariant-loop : tie.invariant-loop
+abbrev invariant-loop : tie.invariant-loop-i
 invariant-loop memory t n stamp frame at₀ i₀ at i = (i ≤ n) × Walking (shelf t) n memory stamp at i
 
-abbrev decreases-loop : tie.decreases-loop
+abbrev decreases-loop : tie.decreases-loop-i
 decreases-loop memory t n stamp frame at₀ i₀ at i = n - i
 
-add-frame : tie.Need-overflow-add-frame invariant-loop decreases-loop
+add-frame : tie.Need-overflow_add-frame invariant-loop decreases-loop
 unfolding share_size_def shelf
-add-frame c = omega (arith, c.share-size.ensures, no-fragment c.before.before.before.args.t)
+add-frame c = omega (arith, c.share_size-frame.ensures, no-fragment c.before.before.before.args.t)
 
-loop-holds : tie.Need-loop-init invariant-loop decreases-loop
-loop-holds c = (omega arith, walk_none _ _ _ _ c.writes-place.ensures)
+loop-holds : tie.Need-loop-i-init invariant-loop decreases-loop
+loop-holds c = (omega arith, walk_none _ _ _ _ c.writes_place-at.ensures)
 
 -- Places far back, each named once: the place, and from where it is seen.
-abbrev shared-slice-known-from-at-loop : tie.At-loop invariant-loop decreases-loop → tie.After-shared-slice-known invariant-loop decreases-loop
+abbrev shared-slice-known-from-at-loop : tie.At-loop-i invariant-loop decreases-loop → tie.After-shared_slice_known-1 invariant-loop decreases-loop
 shared-slice-known-from-at-loop c = c.before.before.before.before
 
-abbrev at-loop-from-else1 : tie.Else1 invariant-loop decreases-loop → tie.At-loop invariant-loop decreases-loop
+abbrev at-loop-from-else1 : tie.Else-same invariant-loop decreases-loop → tie.At-loop-i invariant-loop decreases-loop
 at-loop-from-else1 c = c.before.before.before.before.before
 
 -- the bytes of the write at the place that the walk has reached
-size_is : (c : tie.After-fragment-size invariant-loop decreases-loop)
-    → stamp_size + (at-loop-from-else1 c.before.before.before).before.before.share-size.result + c.fragment-size.result ≡
+size_is : (c : tie.After-fragment_size invariant-loop decreases-loop)
+    → stamp_size + (at-loop-from-else1 c.before.before.before).before.before.share-size.result + c.fragment_size.result ≡
     write_size (shelf (shared-slice-known-from-at-loop (at-loop-from-else1 c.before.before.before)).before.args.t)
     (drop (at-loop-from-else1 c.before.before.before).loop.at
     (shared-slice-known-from-at-loop (at-loop-from-else1 c.before.before.before)).before.args.memory.now)
@@ -45,16 +45,16 @@ size_is c =
     let at-loop = at-loop-from-else1 at-else1 in
     let at-shared-slice-known = shared-slice-known-from-at-loop at-loop in
     size-told at-shared-slice-known.before.args.t at-shared-slice-known.before.args.memory.now
-    at-loop.loop.at at-else1.before.before.before.rest.ensures c.before.before.rest2.ensures c.before.number2.ensures
-    at-loop.before.before.share-size.ensures c.fragment-size.ensures
+    at-loop.loop.at at-else1.before.before.before.rest-write.ensures c.before.before.rest.ensures c.before.number2-length.ensures
+    at-loop.before.before.share-size.ensures c.fragment_size.ensures
 
-returns : tie.Need-returns invariant-loop decreases-loop
+returns : tie.Need-returns-then-same invariant-loop decreases-loop
 returns c =
     let at-loop = c.before.before.before.before.before in
-    walk-found at-loop.loop.invariant.1 (λ i. ((shared-slice-known-from-at-loop at-loop).shared-slice-known.given i).fits) (omega arith)
-    c.before.before.before.rest.ensures c.before.before.part.ensures c.before.same.ensures c.if1.true
+    walk-found at-loop.loop-i.invariant.1 (λ i. ((shared-slice-known-from-at-loop at-loop).shared-slice-known.given i).fits) (omega arith)
+    c.before.before.before.rest-write.ensures c.before.before.part.ensures c.before.same.ensures c.if-same.true
 
-add-size : tie.Need-overflow-add-size invariant-loop decreases-loop
+add-size : tie.Need-overflow_add-size invariant-loop decreases-loop
 unfolding share_size_def shelf
 add-size c =
     let at-else1 = c.before.before.before in
@@ -63,22 +63,22 @@ add-size c =
     omega (
       arith,
       at-loop.before.before.share-size.ensures,
-      c.fragment-size.ensures,
-      fragment-few at-shared-slice-known.before.args.t c.before.number2.result,
+      c.fragment_size.ensures,
+      fragment-few at-shared-slice-known.before.args.t c.before.number2-length.result,
       no-fragment at-shared-slice-known.before.args.t,
     )
 
-returns-2 : tie.Need-returns-2 invariant-loop decreases-loop
+returns-2 : tie.Need-returns-then-write-size invariant-loop decreases-loop
 returns-2 c =
     let at-else1 = c.before.before.before.before in
     let at-loop = at-loop-from-else1 at-else1 in
     walk_short at-loop.loop.inv.1 (λ i. ((shared-slice-known-from-at-loop at-loop).shared-slice-known.given
-    i).fits) (omega arith) at-else1.before.before.before.rest.ensures (size_is c.before) c.if2.true
+    i).fits) (omega arith) at-else1.before.before.before.rest-write.ensures (size_is c.before) c.if-write-size.true
 
-abbrev else1-from-else2 : tie.Else2 invariant-loop decreases-loop → tie.Else1 invariant-loop decreases-loop
+abbrev else1-from-else2 : tie.Else-write-size invariant-loop decreases-loop → tie.Else-same invariant-loop decreases-loop
 else1-from-else2 c = c.before.before.before.before
 
-add_at : tie.Need-overflow-add-at invariant-loop decreases-loop
+add_at : tie.Need-overflow_add-at invariant-loop decreases-loop
 unfolding share_size_def shelf
 add_at c =
     let at-else1 = else1-from-else2 c in
@@ -88,10 +88,10 @@ add_at c =
       at-loop.before.before.share-size.ensures,
       ap length at-else1.before.before.before.rest.ensures,
       length-drop at-loop.loop.at (shared-slice-known-from-at-loop at-loop).before.args.memory.now,
-      c.if2.false,
+      c.if-write-size.false,
     )
 
-loop-again : tie.Need-loop-preserved invariant-loop decreases-loop
+loop-again : tie.Need-loop-i-preserved invariant-loop decreases-loop
 loop-again c =
     let at-else1 = else1-from-else2 c in
     let at-loop = at-loop-from-else1 at-else1 in (
@@ -101,10 +101,10 @@ loop-again c =
           at-else1.before.before.part.ensures at-else1.before.same.ensures at-else1.if1.left (size_is c.before),
     )
 
-returns-3 : tie.Need-returns-3 invariant-loop decreases-loop
-returns-3 c = walk_end c.before.loop.invariant.1 (omega arith)
+returns-3 : tie.Need-returns invariant-loop decreases-loop
+returns-3 c = walk_end c.before.loop-i.invariant.1 (omega arith)
 
-pub search-spec : {M : Type 1} → statement M
-search-spec = tie.close (tie.spec invariant-loop decreases-loop (λ c κs. search rules) add-frame (λ c κs. search rules) loop-holds (λ c κs. search rules)
+pub search_spec : {M : Type 1} → statement M
+search_spec = tie.close (tie.spec invariant-loop decreases-loop (λ c κs. search rules) add-frame (λ c κs. search rules) loop-holds (λ c κs. search rules)
     (λ c κs. search rules) (λ c κs. search rules) returns (λ c κs. search rules) (λ c κs. search rules) (λ c κs. search rules) add-size returns-2
     add_at (λ c. omega arith) (λ c. omega arith) loop-again returns-3)

@@ -5,14 +5,14 @@ use Rattle.server.proofs.Finding.{stands, none-stands}
 use Rattle.server.proofs.memory.stands_at.Statement.{statement}
 use Rattle.server.proofs.memory.stands_at.Tie as tie
 
-returns : tie.Need-returns
-returns c = let a = c.before.before.before.args in none-stands a.memory.now a.stamp.now a.at c.if1.true
+returns : tie.Need-returns-then-at-eq0
+returns c = let a = c.before.before.before.args in none-stands a.memory.now a.stamp.now a.at c.if-at-eq0.true
 
-returns-2 : tie.Need-returns-2
+returns-2 : tie.Need-returns
 returns-2 c =
     let a = c.before.before.before.before.before.before.args in
     stands a.memory.now a.stamp.now a.at c.before.before.rest.ensures c.before.part.ensures c.same.ensures
-    (omega (arith, c.before.before.before.if1.false))
+    (omega (arith, c.before.before.before.if-at-eq0.false))
 
-pub stands-at-spec : {M : Type 1} → statement M
-stands-at-spec = tie.close (tie.spec returns (λ c κs. search rules) (λ c κs. search rules) (λ c κs. search rules) returns-2)
+pub stands_at_spec : {M : Type 1} → statement M
+stands_at_spec = tie.close (tie.spec returns (λ c κs. search rules) (λ c κs. search rules) (λ c κs. search rules) returns-2)

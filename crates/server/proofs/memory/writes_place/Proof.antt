@@ -8,12 +8,12 @@ use Rattle.protocol.specs.Memory.{latest_place}
 use Rattle.server.proofs.memory.writes_place.Statement.{statement}
 use Rattle.server.proofs.memory.writes_place.Tie as tie
 
-add-result : tie.Need-overflow-add-result
+add-result : tie.Need-overflow_add-result
 unfolding shelf
-add-result c = omega (arith, c.candidate-size.ensures)
+add-result c = omega (arith, c.candidate_size.ensures)
 
 returns : tie.Need-returns
-returns c = ap (λ (n : ℕ). latest_place + n) c.candidate-size.ensures
+returns c = ap (λ (n : ℕ). latest_place + n) c.candidate_size.ensures
 
-pub writes-place-spec : {M : Type 1} → statement M
-writes-place-spec = tie.close (tie.spec (λ c κs. search rules) add-result returns)
+pub writes_place_spec : {M : Type 1} → statement M
+writes_place_spec = tie.close (tie.spec (λ c κs. search rules) add-result returns)

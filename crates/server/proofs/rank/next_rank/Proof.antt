@@ -9,30 +9,30 @@ use Rattle.server.proofs.Ranking.{next_more}
 use Rattle.server.proofs.rank.next_rank.Statement.{statement}
 use Rattle.server.proofs.rank.next_rank.Tie as tie
 
-abbrev invariant-loop : tie.invariant-loop
+abbrev invariant-loop : tie.invariant-loop-i
 invariant-loop list t n bound best₀ i₀ best i = (i ≤ n) × (best ≡ next_rank_def (shelf t) list i bound)
 
-abbrev decreases-loop : tie.decreases-loop
+abbrev decreases-loop : tie.decreases-loop-i
 decreases-loop list t n bound best₀ i₀ best i = n - i
 
-loop-holds : tie.Need-loop-init invariant-loop decreases-loop
+loop-holds : tie.Need-loop-i-init invariant-loop decreases-loop
 unfolding next_rank_def
 loop-holds c = (omega arith, refl)
 
-loop-again : tie.Need-loop-preserved invariant-loop decreases-loop
+loop-again : tie.Need-loop-i-preserved invariant-loop decreases-loop
 loop-again c =
     let at-loop = c.before.before.before.before in (
       omega arith,
       next_more (shelf at-loop.before.before.args.t)
-          at-loop.before.before.args.list.now at-loop.loop.i at-loop.before.before.args.bound at-loop.loop.invariant.1
-          c.before.before.rank-at.ensures c.before.under.ensures c.max_of.ensures,
+          at-loop.before.before.args.list.now at-loop.loop-i.i at-loop.before.before.args.bound at-loop.loop-i.invariant.1
+          c.before.before.rank_at.ensures c.before.under.ensures c.max_of-best.ensures,
     )
 
 returns : tie.Need-returns invariant-loop decreases-loop
-returns c = let e : c.before.loop.i ≡ c.before.before.before.args.n = omega arith in subst
-    (λ (z : ℕ). c.before.loop.best ≡ next_rank_def (shelf c.before.before.before.args.t) c.before.before.before.args.list.now z
-    c.before.before.before.args.bound) e c.before.loop.invariant.1
+returns c = let e : c.before.loop-i.i ≡ c.before.before.before.args.n = omega arith in subst
+    (λ (z : ℕ). c.before.loop-i.best ≡ next_rank_def (shelf c.before.before.before.args.t) c.before.before.before.args.list.now z
+    c.before.before.before.args.bound) e c.before.loop-i.invariant.1
 
-pub next-rank-spec : {M : Type 1} → statement M
-next-rank-spec = tie.close (tie.spec invariant-loop decreases-loop loop-holds (λ c κs. search rules) (λ c κs. search rules) (λ c κs. search rules)
+pub next_rank_spec : {M : Type 1} → statement M
+next_rank_spec = tie.close (tie.spec invariant-loop decreases-loop loop-holds (λ c κs. search rules) (λ c κs. search rules) (λ c κs. search rules)
     (λ c. omega arith) (λ c. omega arith) loop-again returns)

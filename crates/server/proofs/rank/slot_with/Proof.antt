@@ -9,5 +9,5 @@ returns : tie.Need-returns
 unfolding slot_with_def
 returns c = refl
 
-pub slot-with-spec : {M : Type 1} → statement M
-slot-with-spec = tie.close (tie.spec (λ c. search rules) (λ c. search rules) returns)
+pub slot_with_spec : {M : Type 1} → statement M
+slot_with_spec = tie.close (tie.spec (λ c. search rules) (λ c. search rules) returns)

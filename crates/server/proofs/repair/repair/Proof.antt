@@ -10,12 +10,12 @@ returns c =
     let at-raise-valid = at-part2.before.before.before.before.before in
     let at-shared-slice-known = at-raise-valid.before.before.before.before in
     repair-answers at-shared-slice-known.before.before.args.memory.now at-shared-slice-known.before.before.args.key
-    at-shared-slice-known.before.before.args.packet.now (λ i. (at-shared-slice-known.shared-slice-known.given
+    at-shared-slice-known.before.before.args.packet.now (λ i. (at-shared-slice-known.shared_slice_known-1.given
     i).fits) at-shared-slice-known.before.before.args.out.now at-shared-slice-known.before.before.args.head
-    at-shared-slice-known.before.before.args.opened at-raise-valid.before.rest.ensures at-raise-valid.raise-valid.ensures
-    at-part2.before.part.ensures at-part2.part2.ensures
-    at-part2.before.before.reply-head.ensures c.before.before.make-packet.ensures
+    at-shared-slice-known.before.before.args.opened at-raise-valid.before.rest.ensures at-raise-valid.raise_valid.ensures
+    at-part2.before.part.ensures at-part2.part-2.ensures
+    at-part2.before.before.reply_head.ensures c.before.before.make_packet.ensures
 
-pub repair-spec : {M : Type 1} → statement M
-repair-spec = tie.close (tie.spec (λ c κs. search rules) (λ c κs. search rules) (λ c κs. search rules) (λ c κs. search rules) (λ c κs. search rules)
+pub repair_spec : {M : Type 1} → statement M
+repair_spec = tie.close (tie.spec (λ c κs. search rules) (λ c κs. search rules) (λ c κs. search rules) (λ c κs. search rules) (λ c κs. search rules)
     (λ c κs. search rules) (λ c. search rules) (λ c. search rules) returns)

@@ -10,6 +10,6 @@ returns c =
     let a = at-put-byte.before.before.before.before.before.args in
     kept-made a.memory.now a.opened a.write.now at-put-byte.put_byte.ensures c.before.before.put.ensures
 
-pub keep-write-spec : {M : Type 1} → statement M
-keep-write-spec = tie.close (tie.spec (λ c. search rules) (λ c. search rules) (λ c κs. search rules) (λ c κs. search rules) (λ c. search rules)
+pub keep_write_spec : {M : Type 1} → statement M
+keep_write_spec = tie.close (tie.spec (λ c. search rules) (λ c. search rules) (λ c κs. search rules) (λ c κs. search rules) (λ c. search rules)
     returns)

@@ -6,23 +6,23 @@ use Rattle.server.proofs.store.store.Statement.{statement}
 use Rattle.server.proofs.store.store.Tie as tie
 
 -- Places far back, each named once: the place, and from where it is seen.
-abbrev start-from-rest : tie.After-rest → tie.Start
+abbrev start-from-rest : tie.After-rest-write → tie.Start
 start-from-rest c = c.before.before.before.before
 
-returns : tie.Need-returns
+returns : tie.Need-returns-in_default
 returns c =
     let at-enum-told2 = c.before.before.before.before in
     let at_rest = at-enum-told2.before.before.before.before in
     λ key o own dec k room.
     let a = (start-from-rest at_rest).args in
-    answer-held (λ i. (at_rest.before.before.before.slice-known.given i).fits) a.packet.now
-    (λ i. (at_rest.before.before.shared-slice-known.given i).fits) a.out.now a.head key o own dec k room at_rest.rest.ensures
-    at-enum-told2.before.before.find.ensures at-enum-told2.enum-told2.given.1 c.before.before.store-reply.ensures
+    answer-held (λ i. (at_rest.before.before.before.slice_known-1.given i).fits) a.packet.now
+    (λ i. (at_rest.before.before.shared_slice_known-1.given i).fits) a.out.now a.head key o own dec k room at_rest.rest-write.ensures
+    at-enum-told2.before.before.find.ensures at-enum-told2.enum_told-in_default-1.given.1 c.before.before.store_reply.ensures
 
-abbrev rest-from-enum-told : tie.After-enum-told → tie.After-rest
+abbrev rest-from-enum-told : tie.In-Nothing → tie.After-rest-write
 rest-from-enum-told c = c.before.before.before.before
 
-returns-2 : tie.Need-returns-2
+returns-2 : tie.Need-returns-then-opened-ge-CAPACITY
 returns-2 c =
     let at-enum-told = c.before.before.before.before.before.before in
     let at_rest = rest-from-enum-told at-enum-told in
@@ -30,9 +30,9 @@ returns-2 c =
     let a = (start-from-rest at_rest).args in
     answer_full (λ i. (at_rest.before.before.before.slice-known.given i).fits) a.packet.now
     (λ i. (at_rest.before.before.shared-slice-known.given i).fits) a.out.now a.head key o own dec k room at_rest.rest.ensures
-    at-enum-told.before.before.find.ensures at-enum-told.enum_told.given.1 (omega arith) c.before.before.store-reply2.ensures
+    at-enum-told.before.before.find.ensures at-enum-told.enum_told-1.given.1 (omega arith) c.before.before.store_reply-then-opened-ge-CAPACITY.ensures
 
-returns-3 : tie.Need-returns-3
+returns-3 : tie.Need-returns
 returns-3 c =
     let at-keep-write = c.before.before.before.before.before.before in
     let at-enum-told = at-keep-write.before.before.before.before in
@@ -40,8 +40,8 @@ returns-3 c =
     λ key o own dec k room.
     let a = (start-from-rest at_rest).args in
     answer-kept (λ i. (at_rest.before.before.before.slice-known.given i).fits) a.packet.now (λ i. (at_rest.before.before.shared-slice-known.given i).fits) a.out.now a.head key o own dec k room at_rest.rest.ensures
-    at-enum-told.before.before.find.ensures at-enum-told.enum_told.given.1 (omega arith)
-    at-keep-write.keep-write.ensures c.before.before.store-reply3.ensures
+    at-enum-told.before.before.find.ensures at-enum-told.enum_told-1.given.1 (omega arith)
+    at-keep-write.keep_write.ensures c.before.before.store_reply-2.ensures
 
 pub store_spec : {M : Type 1} → statement M
 store_spec = tie.close (tie.spec (λ c κs. search rules) (λ c κs. search rules) (λ c. search rules) (λ c. search rules) (λ c κs. search rules)

@@ -7,7 +7,7 @@ use Rattle.server.proofs.take.answer.Statement.{statement}
 use Rattle.server.proofs.take.answer.Tie as tie
 
 -- Places far back, each named once: the place, and from where it is seen.
-abbrev start-from-head : tie.After-head → tie.Start
+abbrev start-from-head : tie.After-head-1 → tie.Start
 start-from-head c = c.before.before.before.before
 
 -- the packet is a filter: its number is the list's count
@@ -15,52 +15,52 @@ filter-requires : tie.Need-filter-requires
 filter-requires c κs =
     let at-arm = c.before.before in
     let z = start-from-head at-arm.before in
-    (z.pre.0, z.pre.1 ∙ told-count z.args.passed.head z.args.packet.now at-arm.match.keys5)
+    (z.pre.0, z.pre.1 ∙ told-count z.args.passed.head z.args.packet.now at-arm.in-9.keys5)
 
-returns : tie.Need-returns
+returns : tie.Need-returns-in-1
 returns c =
     let at-clock = c.before.before in
     let at-arm = at-clock.before.before.before in
     let a = (start-from-head at-arm.before).args in
     λ o own dec sent room. at-clock.clock.ensures a.packet.now a.key a.opened o own dec at-arm.match.keys1 room
 
-returns-2 : tie.Need-returns-2
+returns-2 : tie.Need-returns-in-3
 returns-2 c =
     let at_store = c.before.before.before.before in
     let at-arm = at_store.before.before.before in
     let a = (start-from-head at-arm.before).args in
-    λ o own dec sent room. at_store.store.ensures a.key o own dec at-arm.match.keys2 room
+    λ o own dec sent room. at_store.store.ensures a.key o own dec at-arm.in-3.keys2 room
 
-returns-3 : tie.Need-returns-3
+returns-3 : tie.Need-returns-in-5
 returns-3 c =
     let at-complete = c.before.before.before.before in
     let at-arm = at-complete.before.before.before in
     let a = (start-from-head at-arm.before).args in
-    λ o own dec sent room. at-complete.complete.ensures a.key a.opened o own dec at-arm.match.keys3 room
+    λ o own dec sent room. at-complete.complete.ensures a.key a.opened o own dec at-arm.in-5.keys3 room
 
-returns-4 : tie.Need-returns-4
+returns-4 : tie.Need-returns-in-7
 returns-4 c =
     let at-collect = c.before.before in
     let at-arm = at-collect.before.before.before in
     let a = (start-from-head at-arm.before).args in
     λ o own dec sent room. at-collect.collect.ensures a.packet.now a.key a.opened o own dec at-arm.match.keys4 room
 
-returns-5 : tie.Need-returns-5
+returns-5 : tie.Need-returns-in-9
 returns-5 c =
     let at-filter = c.before.before.before.before in
-    λ o own dec sent room. at-filter.filter.ensures o own dec at-filter.before.before.before.match.keys5 room
+    λ o own dec sent room. at-filter.filter.ensures o own dec at-filter.before.before.before.in-9.keys5 room
 
-returns-6 : tie.Need-returns-6
+returns-6 : tie.Need-returns-in_default
 returns-6 c =
     let at-repair = c.before.before.before.before in
     let at-arm = at-repair.before.before.before in
     let a = (start-from-head at-arm.before).args in
-    let rest = at-arm.match.rest in
+    let rest = at-arm.in_default.rest in
     λ o own dec sent room. at-repair.repair.ensures o own dec
     (is-repair a.passed.head a.packet.now rest.0.0.0.0.1 rest.0.0.0.1 rest.0.0.1 rest.0.1 rest.1 sent) room
 
-pub answer-spec : {M : Type 1} → statement M
-answer-spec = tie.close (tie.spec (λ c κs. search rules) (λ c κs. search rules) (λ c κs. search rules) (λ c κs. search rules) filter-requires
+pub answer_spec : {M : Type 1} → statement M
+answer_spec = tie.close (tie.spec (λ c κs. search rules) (λ c κs. search rules) (λ c κs. search rules) (λ c κs. search rules) filter-requires
     (λ c κs. search rules) (λ c. search rules) (λ c. search rules) returns (λ c. search rules) (λ c. search rules) returns-2
     (λ c. search rules) (λ c. search rules) returns-3 (λ c. search rules) (λ c. search rules) returns-4
     (λ c. search rules) (λ c. search rules) returns-5 (λ c. search rules) (λ c. search rules) returns-6)

@@ -7,47 +7,47 @@ use Rattle.server.proofs.Taking.{take-size, take_broken, take_unread, take-refus
 use Rattle.server.proofs.take.take.Statement.{statement}
 use Rattle.server.proofs.take.take.Tie as tie
 
-returns : tie.Need-returns
+returns : tie.Need-returns-then-memory-ne-MEMORY
 returns c = let a = c.before.before.before.before.before.args in take-size a.memory.now a.key.now a.packet.now a.out.now
-    c.before.if1.true c.refused.ensures
+    c.before.if-memory-ne-MEMORY.true c.refused.ensures
 
 -- Places far back, each named once: the place, and from where it is seen.
-abbrev start-from-else1 : tie.Else1 → tie.Start
+abbrev start-from-else1 : tie.Else-memory-ne-MEMORY → tie.Start
 start-from-else1 c = c.before.before.before.before
 
-returns-2 : tie.Need-returns-2
+returns-2 : tie.Need-returns-in_default
 returns-2 c =
     let at-else1 = c.before.before.before.before.before in
     let a = (start-from-else1 at-else1).args in
-    take_broken a.memory.now a.key.now a.packet.now a.out.now at-else1.if1.false
-    (rw c.before.enum_told.given.1 at c.before.before.before.«open».ensures) c.refused2.ensures
+    take_broken a.memory.now a.key.now a.packet.now a.out.now at-else1.if-memory-ne-MEMORY.false
+    (rw c.before.enum_told-1.given.1 at c.before.before.before.«open».ensures) c.refused-in_default.ensures
 
-abbrev else1-from-opened : tie.After-opened → tie.Else1
+abbrev else1-from-opened : tie.In-Value-2 → tie.Else-memory-ne-MEMORY
 else1-from-opened c = c.before.before.before.before
 
-opens : (c : tie.After-opened) → OpenedAs (start-from-else1 (else1-from-opened c)).args.memory.now c.opened.given.0.0
-opens c = rw c.opened.given.1 at c.before.before.«open».ensures
+opens : (c : tie.In-Value-2) → OpenedAs (start-from-else1 (else1-from-opened c)).args.memory.now c.opened-1.given.0.0
+opens c = rw c.opened-1.given.1 at c.before.before.«open».ensures
 
-returns-3 : tie.Need-returns-3
+returns-3 : tie.Need-returns-in_default-read_packet
 returns-3 c =
     let at-opened = c.before.before.before.before.before in
     let at-else1 = else1-from-opened at-opened in
     let a = (start-from-else1 at-else1).args in
     let m = opens at-opened in
     take_unread a.memory.now a.key.now a.packet.now a.out.now at-else1.if1.left m
-    (rw c.before.enum-told2.given.1 at c.before.before.before.read-packet.ensures) c.refused3.ensures
+    (rw c.before.enum_told-in_default-read_packet-1.given.1 at c.before.before.before.read_packet.ensures) c.refused-in_default-read_packet.ensures
 
-abbrev opened-from-passed : tie.After-passed → tie.After-opened
+abbrev opened-from-passed : tie.In-Value-read_packet-2 → tie.In-Value-2
 opened-from-passed c = c.before.before.before.before
 
-module _ (c : tie.After-passed) where
+module _ (c : tie.In-Value-read_packet-2) where
   abbrev passed : Passed
-  passed = c.passed.given.0.0
+  passed = c.passed-1.given.0.0
 
   read : TookPacket (start-from-else1 (else1-from-opened (opened-from-passed c))).args.packet.now passed.head passed.label passed.number
-  read = rw c.passed.given.1 at c.before.before.read-packet.ensures
+  read = rw c.passed-1.given.1 at c.before.before.read_packet.ensures
 
-returns-4 : tie.Need-returns-4
+returns-4 : tie.Need-returns-then-number-ne0
 returns-4 c =
     let at-passed = c.before.before.before.before in
     let at-opened = opened-from-passed at-passed in
@@ -56,7 +56,7 @@ returns-4 c =
     let m = opens at-opened in
     let p = read at-passed in
     take-refused a.memory.now a.key.now a.packet.now a.out.now at-else1.if1.left m _ p.packet
-    (c.before.before.refusal.ensures a.packet.now p.label) c.before.if2.true c.refused4.ensures
+    (c.before.before.refusal-number.ensures a.packet.now p.label) c.before.if-number-ne0.true c.refused-then-number-ne0.ensures
 
 answer-requires : tie.Need-answer-requires
 answer-requires c κs =
@@ -64,7 +64,7 @@ answer-requires c κs =
     let at-passed = at-else2.before.before.before in
     (server_least (opens (opened-from-passed at-passed)), (read at-passed).number)
 
-returns-5 : tie.Need-returns-5
+returns-5 : tie.Need-returns
 returns-5 c =
     let at-answer = c.before.before.before.before in
     let at-else2 = at-answer.before.before.before.before in
@@ -75,8 +75,8 @@ returns-5 c =
     let m = opens at-opened in
     let p = read at-passed in
     take-answered a.memory.now a.key.now a.packet.now a.out.now at-else1.if1.left m _ p.packet
-    (at-else2.before.refusal.ensures a.packet.now p.label)
-    at-else2.if2.false at-answer.answer.ensures
+    (at-else2.before.refusal-number.ensures a.packet.now p.label)
+    at-else2.if-number-ne0.false at-answer.answer.ensures
 
 pub take_spec : {M : Type 1} → statement M
 take_spec = tie.close (tie.spec (λ c κs. search rules) returns (λ c κs. search rules) (λ c. search rules) (λ c. search rules) (λ c κs. search rules)

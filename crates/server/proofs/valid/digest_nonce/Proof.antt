@@ -8,5 +8,5 @@ use Rattle.server.proofs.valid.digest_nonce.Tie as tie
 returns : tie.Need-returns
 returns c = c.digest.ensures ∙ ap sha256 c.before.part.ensures
 
-pub digest-nonce-spec : {M : Type 1} → statement M
-digest-nonce-spec = tie.close (tie.spec (λ c κs. search rules) (λ c κs. search rules) returns)
+pub digest_nonce_spec : {M : Type 1} → statement M
+digest_nonce_spec = tie.close (tie.spec (λ c κs. search rules) (λ c κs. search rules) returns)

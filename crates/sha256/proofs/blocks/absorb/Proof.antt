@@ -9,22 +9,22 @@ use borrow.Author.Rules.{rules}
 use Rattle.sha256.proofs.blocks.absorb.Statement.{statement}
 use Rattle.sha256.proofs.blocks.absorb.Tie as tie
 
-abbrev invariant-loop : tie.invariant-loop
+abbrev invariant-loop : tie.invariant-loop-j
 invariant-loop m blocks v₀ j₀ v j = (j ≤ blocks) × (v ≡ hashed v₀ j m)
 
-abbrev decreases-loop : tie.decreases-loop
+abbrev decreases-loop : tie.decreases-loop-j
 decreases-loop m blocks v₀ j₀ v j = blocks - j
 
-loop-holds : tie.Need-loop-init invariant-loop decreases-loop
+loop-holds : tie.Need-loop-j-init invariant-loop decreases-loop
 unfolding hashed
 loop-holds c = (omega arith, refl)
 
-loop-again : tie.Need-loop-preserved invariant-loop decreases-loop
+loop-again : tie.Need-loop-j-preserved invariant-loop decreases-loop
 unfolding hashed
 loop-again c = (omega arith, rw add-one (cc))
 
 returns : tie.Need-returns invariant-loop decreases-loop
-returns c = let e : c.before.loop.j ≡ length c.before.before.before.args.m.now / 64 = omega arith in rw e at c.before.loop.invariant.1
+returns c = let e : c.before.loop-j.j ≡ length c.before.before.before.args.m.now / 64 = omega arith in rw e at c.before.loop-j.invariant.1
 
-pub absorb-spec : {M : Type 1} → statement M
-absorb-spec = tie.close (tie.spec invariant-loop decreases-loop loop-holds (λ c κs. search rules) (λ c. search rules) (λ c. search rules) loop-again returns)
+pub absorb_spec : {M : Type 1} → statement M
+absorb_spec = tie.close (tie.spec invariant-loop decreases-loop loop-holds (λ c κs. search rules) (λ c. search rules) (λ c. search rules) loop-again returns)

@@ -9,25 +9,25 @@ use borrow.Author.Rules.{rules}
 use Rattle.sha256.proofs.blocks.words.Statement.{statement}
 use Rattle.sha256.proofs.blocks.words.Tie as tie
 
-abbrev invariant-loop : tie.invariant-loop
+abbrev invariant-loop : tie.invariant-loop-i
 invariant-loop m j w₀ i₀ w i = (i ≤ 16) × (length w ≡ 16) × (take i w ≡ tab i (λ k. word_at m (64 * j + 4 * k)))
 
-abbrev decreases-loop : tie.decreases-loop
+abbrev decreases-loop : tie.decreases-loop-i
 decreases-loop m j w₀ i₀ w i = 16 - i
 
-loop-holds : tie.Need-loop-init invariant-loop decreases-loop
+loop-holds : tie.Need-loop-i-init invariant-loop decreases-loop
 unfolding tab
 loop-holds c = (omega arith, refl, refl)
 
-loop-again : tie.Need-loop-preserved invariant-loop decreases-loop
+loop-again : tie.Need-loop-i-preserved invariant-loop decreases-loop
 loop-again c =
-    let at = c.before.before.loop in
+    let at = c.before.before.loop-i in
     (omega arith, simp length-set at.invariant.1, tab_more at.i _ at.w _ (omega arith) at.invariant.2 c.word.ensures)
 
 returns : tie.Need-returns invariant-loop decreases-loop
 unfolding block
-returns c = let e : c.before.loop.i ≡ 16 = omega arith in tab_all 16 _ _ c.before.loop.invariant.1 (rw e at c.before.loop.invariant.2)
+returns c = let e : c.before.loop-i.i ≡ 16 = omega arith in tab_all 16 _ _ c.before.loop-i.invariant.1 (rw e at c.before.loop-i.invariant.2)
 
-pub words-spec : {M : Type 1} → statement M
-words-spec = tie.close (tie.spec invariant-loop decreases-loop loop-holds (λ c. search rules) (λ c. search rules) (λ c. search rules) (λ c κs. search rules)
+pub words_spec : {M : Type 1} → statement M
+words_spec = tie.close (tie.spec invariant-loop decreases-loop loop-holds (λ c. search rules) (λ c. search rules) (λ c. search rules) (λ c κs. search rules)
     (λ c. search rules) (λ c. search rules) (λ c. search rules) (λ c. search rules) loop-again returns)

@@ -8,5 +8,5 @@ returns : tie.Need-returns
 unfolding sum0 rotr
 returns c = search rules
 
-pub big0-spec : {M : Type 1} → statement M
-big0-spec = tie.close (tie.spec returns)
+pub big0_spec : {M : Type 1} → statement M
+big0_spec = tie.close (tie.spec returns)

@@ -8,5 +8,5 @@ returns : tie.Need-returns
 unfolding sum1 rotr
 returns c = search rules
 
-pub big1-spec : {M : Type 1} → statement M
-big1-spec = tie.close (tie.spec returns)
+pub big1_spec : {M : Type 1} → statement M
+big1_spec = tie.close (tie.spec returns)

@@ -8,5 +8,5 @@ use Rattle.sha256.proofs.rounds.maj.Tie as tie
 returns : tie.Need-returns
 returns c = sym (majority_mixed 32 c.args.x c.args.y c.args.z (search rules) (search rules) (search rules))
 
-pub maj-spec : {M : Type 1} → statement M
-maj-spec = tie.close (tie.spec returns)
+pub maj_spec : {M : Type 1} → statement M
+maj_spec = tie.close (tie.spec returns)

@@ -8,5 +8,5 @@ returns : tie.Need-returns
 unfolding sigma0 rotr
 returns c = search rules
 
-pub small0-spec : {M : Type 1} → statement M
-small0-spec = tie.close (tie.spec returns)
+pub small0_spec : {M : Type 1} → statement M
+small0_spec = tie.close (tie.spec returns)

@@ -8,5 +8,5 @@ returns : tie.Need-returns
 unfolding sigma1 rotr
 returns c = search rules
 
-pub small1-spec : {M : Type 1} → statement M
-small1-spec = tie.close (tie.spec returns)
+pub small1_spec : {M : Type 1} → statement M
+small1_spec = tie.close (tie.spec returns)

@@ -7,19 +7,19 @@ use borrow.Author.Rules.{rules}
 use Rattle.sha256.proofs.turns.compress.Statement.{statement}
 use Rattle.sha256.proofs.turns.compress.Tie as tie
 
-first-requires : tie.Need-first-requires
+first-requires : tie.Need-first-v-requires
 unfolding k_table
 first-requires c κs = search rules
 
-second-requires : tie.Need-second-requires
+second-requires : tie.Need-second-v-requires
 unfolding k_table
 second-requires c κs = search rules
 
-third-requires : tie.Need-third-requires
+third-requires : tie.Need-third-v-requires
 unfolding k_table
 third-requires c κs = search rules
 
-fourth-requires : tie.Need-fourth-requires
+fourth-requires : tie.Need-fourth-v-requires
 unfolding k_table
 fourth-requires c κs = search rules
 
@@ -35,14 +35,14 @@ returns c =
     let at_first = at_second.before.before.before in
     let at-begin = at_first.before.before.before in
     let b = at-begin.before.args.b in
-    let s = at-begin.begin.result in
+    let s = at-begin.begin-v.result in
     let l = words-length at-begin.before in
-    let r1 = at_first.first.ensures.1 b s l (reached_none b s l) in
-    let r2 = at_second.second.ensures.1 b s l r1 in
-    let r3 = at-third.third.ensures.1 b s l r2 in
-    let r4 = at-fourth.fourth.ensures b s l r3 in
-    c.added.ensures ∙ ap (add_work _) (r4.work ∙ ap (rounds 64 (grow 48 b)) at-begin.begin.ensures)
+    let r1 = at_first.first-v.ensures.1 b s l (reached_none b s l) in
+    let r2 = at_second.second-v.ensures.1 b s l r1 in
+    let r3 = at-third.third-v.ensures.1 b s l r2 in
+    let r4 = at-fourth.fourth-v.ensures b s l r3 in
+    c.added.ensures ∙ ap (add_work _) (r4.work ∙ ap (rounds 64 (grow 48 b)) at-begin.begin-v.ensures)
 
-pub compress-spec : {M : Type 1} → statement M
-compress-spec = tie.close (tie.spec (λ c κs. search rules) first-requires second-requires third-requires fourth-requires (λ c κs. search rules)
+pub compress_spec : {M : Type 1} → statement M
+compress_spec = tie.close (tie.spec (λ c κs. search rules) first-requires second-requires third-requires fourth-requires (λ c κs. search rules)
     returns)

@@ -4,49 +4,49 @@ use borrow.Author.Rules.{rules}
 use Rattle.sha256.proofs.turns.fourth.Statement.{statement}
 use Rattle.sha256.proofs.turns.fourth.Tie as tie
 
-abbrev start1 : tie.After-last → tie.Start
+abbrev start1 : tie.After-last-v → tie.Start
 start1 c = c.before
 
-abbrev start2 : tie.After-last2 → tie.Start
+abbrev start2 : tie.After-last-v-2 → tie.Start
 start2 c = start1 c.before
 
-abbrev start3 : tie.After-last3 → tie.Start
+abbrev start3 : tie.After-last-v-3 → tie.Start
 start3 c = start2 c.before
 
-abbrev start4 : tie.After-last4 → tie.Start
+abbrev start4 : tie.After-last-v-4 → tie.Start
 start4 c = start3 c.before
 
-abbrev start5 : tie.After-last5 → tie.Start
+abbrev start5 : tie.After-last-v-5 → tie.Start
 start5 c = start4 c.before
 
-abbrev start6 : tie.After-last6 → tie.Start
+abbrev start6 : tie.After-last-v-6 → tie.Start
 start6 c = start5 c.before
 
-abbrev start7 : tie.After-last7 → tie.Start
+abbrev start7 : tie.After-last-v-7 → tie.Start
 start7 c = start6 c.before
 
-abbrev start8 : tie.After-last8 → tie.Start
+abbrev start8 : tie.After-last-v-8 → tie.Start
 start8 c = start7 c.before
 
-abbrev start9 : tie.After-last9 → tie.Start
+abbrev start9 : tie.After-last-v-9 → tie.Start
 start9 c = start8 c.before
 
-abbrev start10 : tie.After-last10 → tie.Start
+abbrev start10 : tie.After-last-v-10 → tie.Start
 start10 c = start9 c.before
 
-abbrev start11 : tie.After-last11 → tie.Start
+abbrev start11 : tie.After-last-v-11 → tie.Start
 start11 c = start10 c.before
 
-abbrev start12 : tie.After-last12 → tie.Start
+abbrev start12 : tie.After-last-v-12 → tie.Start
 start12 c = start11 c.before
 
-abbrev start13 : tie.After-last13 → tie.Start
+abbrev start13 : tie.After-last-v-13 → tie.Start
 start13 c = start12 c.before
 
-abbrev start14 : tie.After-last14 → tie.Start
+abbrev start14 : tie.After-last-v-14 → tie.Start
 start14 c = start13 c.before
 
-abbrev start15 : tie.After-last15 → tie.Start
+abbrev start15 : tie.After-last-v-15 → tie.Start
 start15 c = start14 c.before
 
 returns : tie.Need-returns
@@ -67,25 +67,25 @@ returns c =
     let c2 = c3.before in
     let c1 = c2.before in
     λ b s l h.
-    let r1 = c1.last.ensures b s l h in
-    let r2 = c2.last2.ensures b s l r1 in
-    let r3 = c3.last3.ensures b s l r2 in
-    let r4 = c4.last4.ensures b s l r3 in
-    let r5 = c5.last5.ensures b s l r4 in
-    let r6 = c6.last6.ensures b s l r5 in
-    let r7 = c7.last7.ensures b s l r6 in
-    let r8 = c8.last8.ensures b s l r7 in
-    let r9 = c9.last9.ensures b s l r8 in
-    let r10 = c10.last10.ensures b s l r9 in
-    let r11 = c11.last11.ensures b s l r10 in
-    let r12 = c12.last12.ensures b s l r11 in
-    let r13 = c13.last13.ensures b s l r12 in
-    let r14 = c14.last14.ensures b s l r13 in
-    let r15 = c15.last15.ensures b s l r14 in
-    c.last16.ensures b s l r15
+    let r1 = c1.last-v.ensures b s l h in
+    let r2 = c2.last-v-2.ensures b s l r1 in
+    let r3 = c3.last-v-3.ensures b s l r2 in
+    let r4 = c4.last-v-4.ensures b s l r3 in
+    let r5 = c5.last-v-5.ensures b s l r4 in
+    let r6 = c6.last-v-6.ensures b s l r5 in
+    let r7 = c7.last-v-7.ensures b s l r6 in
+    let r8 = c8.last-v-8.ensures b s l r7 in
+    let r9 = c9.last-v-9.ensures b s l r8 in
+    let r10 = c10.last-v-10.ensures b s l r9 in
+    let r11 = c11.last-v-11.ensures b s l r10 in
+    let r12 = c12.last-v-12.ensures b s l r11 in
+    let r13 = c13.last-v-13.ensures b s l r12 in
+    let r14 = c14.last-v-14.ensures b s l r13 in
+    let r15 = c15.last-v-15.ensures b s l r14 in
+    c.last-v-16.ensures b s l r15
 
-pub fourth-spec : {M : Type 1} → statement M
-fourth-spec =
+pub fourth_spec : {M : Type 1} → statement M
+fourth_spec =
     tie.close (tie.spec (λ c κs. search rules)
     (λ c κs. (omega arith, omega arith, (start1 c).requires))
     (λ c κs. (omega arith, omega arith, (start2 c).requires))

@@ -9,5 +9,5 @@ returns c =
     let at = c.before.before.before in
     λ b s l h. reached_last b s _ _ _ at.args.w.now at.args.n at.requires.2 c.round.ensures h at.requires.0 at.requires.1
 
-pub last-spec : {M : Type 1} → statement M
-last-spec = tie.close (tie.spec (λ c. search rules) (λ c. search rules) (λ c. search rules) (λ c. search rules) (λ c κs. search rules) returns)
+pub last_spec : {M : Type 1} → statement M
+last_spec = tie.close (tie.spec (λ c. search rules) (λ c. search rules) (λ c. search rules) (λ c. search rules) (λ c κs. search rules) returns)

@@ -11,7 +11,7 @@ returns c =
     let at = at-later.before.before.before in (
       simp length-set at.requires.2,
       λ b s l h. reached_more b s _ _ _ at.args.w.now at.args.n at.requires.1 c.round.ensures h _ at.requires.0 at.requires.2 l
-          at-later.later.ensures,
+          at-later.later-y.ensures,
     )
 
 pub turn_spec : {M : Type 1} → statement M

@@ -6,10 +6,10 @@ use borrow.Author.Rules.{rules}
 use Rattle.vectors.proofs.cards.fill.Statement.{statement}
 use Rattle.vectors.proofs.cards.fill.Tie as tie
 
-abbrev invariant-loop : tie.invariant-loop
+abbrev invariant-loop : tie.invariant-loop-i
 invariant-loop memory₀ kept₀ i₀ memory kept i = (length memory ≡ length memory₀) × ((kept ≤ i) × (i ≤ 32))
 
-abbrev decreases-loop : tie.decreases-loop
+abbrev decreases-loop : tie.decreases-loop-i
 decreases-loop memory₀ kept₀ i₀ memory kept i = 32 - i
 
 returns : tie.Need-returns invariant-loop decreases-loop

@@ -11,47 +11,47 @@ use Rattle.wire.proofs.bytes.all_zero.Statement.{statement}
 use Rattle.wire.proofs.bytes.all_zero.Tie as tie
 use borrow.Author.Tests.{not-true, not-false}
 
-abbrev invariant-loop : tie.invariant-loop
+abbrev invariant-loop : tie.invariant-loop-at
 invariant-loop s at₀ at = (at ≤ length s) × (zeros s ≡ zeros (drop at s))
 
-abbrev decreases-loop : tie.decreases-loop
+abbrev decreases-loop : tie.decreases-loop-at
 decreases-loop s at₀ at = length s - at
 
-loop-holds : tie.Need-loop-init invariant-loop decreases-loop
+loop-holds : tie.Need-loop-at-init invariant-loop decreases-loop
 loop-holds c = (omega arith, refl)
 
-joined-zero-requires : tie.Need-joined-zero-requires invariant-loop decreases-loop
+joined-zero-requires : tie.Need-joined_zero-requires invariant-loop decreases-loop
 joined-zero-requires c κs = tt
 
-returns : tie.Need-returns invariant-loop decreases-loop
+returns : tie.Need-returns-then-not-joined_zero invariant-loop decreases-loop
 returns c =
     let at-loop = c.before.before.before.before in
     let s = at-loop.before.before.args.s.now in
-    let l = at-loop.loop in
-    sym (l.invariant.1 ∙ chunk-other s l.at (l.at + 256 - l.at) (sym c.before.joined-zero.ensures ∙ not-true c.before.joined-zero.result
-    c.if1.true))
+    let l = at-loop.loop-at in
+    sym (l.invariant.1 ∙ chunk-other s l.at (l.at + 256 - l.at) (sym c.before.joined_zero.ensures ∙ not-true c.before.joined_zero.result
+    c.if-not-joined_zero.true))
 
-loop-again : tie.Need-loop-preserved invariant-loop decreases-loop
+loop-again : tie.Need-loop-at-preserved invariant-loop decreases-loop
 loop-again c =
     let at-loop = c.before.before.before.before in
     let s = at-loop.before.before.args.s.now in
-    let l = at-loop.loop in
+    let l = at-loop.loop-at in
     let e : l.at + (l.at + 256 - l.at) ≡ l.at + 256 = omega arith in (
       omega arith,
-      l.invariant.1 ∙ (chunk-zero s l.at (l.at + 256 - l.at) (sym c.before.joined-zero.ensures ∙ not-false
-          c.before.joined-zero.result c.if1.false) ∙ ap (λ (k : ℕ). zeros (drop k s)) e),
+      l.invariant.1 ∙ (chunk-zero s l.at (l.at + 256 - l.at) (sym c.before.joined_zero.ensures ∙ not-false
+          c.before.joined_zero.result c.if-not-joined_zero.false) ∙ ap (λ (k : ℕ). zeros (drop k s)) e),
     )
 
-joined-zero-requires-2 : tie.Need-joined-zero-requires-2 invariant-loop decreases-loop
+joined-zero-requires-2 : tie.Need-joined_zero-requires-2 invariant-loop decreases-loop
 joined-zero-requires-2 c κs = tt
 
-returns-2 : tie.Need-returns-2 invariant-loop decreases-loop
+returns-2 : tie.Need-returns invariant-loop decreases-loop
 returns-2 c =
     let s = c.before.before.before.before.before.args.s.now in
-    let l = c.before.before.before.loop in
-    c.joined-zero2.ensures ∙ (ap zeros (take_all (length s - l.at) (drop l.at s) (omega (arith, length-drop l.at s))) ∙ sym l.invariant.1)
+    let l = c.before.before.before.loop-at in
+    c.joined_zero-2.ensures ∙ (ap zeros (take_all (length s - l.at) (drop l.at s) (omega (arith, length-drop l.at s))) ∙ sym l.invariant.1)
 
-pub all-zero-spec : {M : Type 1} → statement M
-all-zero-spec = tie.close (tie.spec invariant-loop decreases-loop loop-holds (λ c. omega arith) (λ c. omega arith) (λ c. omega arith) (λ c. omega arith)
+pub all_zero_spec : {M : Type 1} → statement M
+all_zero_spec = tie.close (tie.spec invariant-loop decreases-loop loop-holds (λ c. omega arith) (λ c. omega arith) (λ c. omega arith) (λ c. omega arith)
     (λ c. omega arith) joined-zero-requires returns (λ c. omega arith) loop-again (λ c. omega arith) (λ c. omega arith) (λ c. omega arith)
     joined-zero-requires-2 returns-2)

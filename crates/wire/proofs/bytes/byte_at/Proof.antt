@@ -7,11 +7,11 @@ use Rattle.wire.proofs.Runs.{get_d_past}
 use Rattle.wire.proofs.bytes.byte_at.Statement.{statement}
 use Rattle.wire.proofs.bytes.byte_at.Tie as tie
 
-returns : tie.Need-returns
+returns : tie.Need-returns-then-at-s
 returns c = search rules
 
-returns-2 : tie.Need-returns-2
+returns-2 : tie.Need-returns-else-at-s
 returns-2 c = sym (get_d_past c.before.args.s.now c.before.args.at (omega arith))
 
-pub byte-at-spec : {M : Type 1} → statement M
-byte-at-spec = tie.close (tie.spec (λ c. search rules) returns returns-2)
+pub byte_at_spec : {M : Type 1} → statement M
+byte_at_spec = tie.close (tie.spec (λ c. search rules) returns returns-2)

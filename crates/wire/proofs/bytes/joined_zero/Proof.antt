@@ -11,24 +11,24 @@ use Rattle.wire.proofs.Joined.{zeros_more, zeros-end}
 use Rattle.wire.proofs.bytes.joined_zero.Statement.{statement}
 use Rattle.wire.proofs.bytes.joined_zero.Tie as tie
 
-abbrev invariant-loop : tie.invariant-loop
+abbrev invariant-loop : tie.invariant-loop-i
 invariant-loop s all₀ i₀ all i = (i ≤ length s) × (zeros s ≡ eqb all 0 && zeros (drop i s))
 
-abbrev decreases-loop : tie.decreases-loop
+abbrev decreases-loop : tie.decreases-loop-i
 decreases-loop s all₀ i₀ all i = length s - i
 
-loop-holds : tie.Need-loop-init invariant-loop decreases-loop
+loop-holds : tie.Need-loop-i-init invariant-loop decreases-loop
 loop-holds c = (omega arith, refl)
 
-loop-again : tie.Need-loop-preserved invariant-loop decreases-loop
+loop-again : tie.Need-loop-i-preserved invariant-loop decreases-loop
 loop-again c = (
   omega arith,
-  c.before.before.loop.invariant.1 ∙ zeros_more c.before.before.before.args.s.now c.before.before.loop.i
-      c.before.before.loop.all (omega arith),
+  c.before.before.loop-i.invariant.1 ∙ zeros_more c.before.before.before.args.s.now c.before.before.loop-i.i
+      c.before.before.loop-i.all (omega arith),
 )
 
 returns : tie.Need-returns invariant-loop decreases-loop
-returns c = sym (c.before.loop.invariant.1 ∙ zeros-end c.before.before.args.s.now c.before.loop.i c.before.loop.all (omega arith))
+returns c = sym (c.before.loop-i.invariant.1 ∙ zeros-end c.before.before.args.s.now c.before.loop-i.i c.before.loop-i.all (omega arith))
 
-pub joined-zero-spec : {M : Type 1} → statement M
-joined-zero-spec = tie.close (tie.spec invariant-loop decreases-loop loop-holds (λ c. omega arith) (λ c. omega arith) (λ c. omega arith) loop-again returns)
+pub joined_zero_spec : {M : Type 1} → statement M
+joined_zero_spec = tie.close (tie.spec invariant-loop decreases-loop loop-holds (λ c. omega arith) (λ c. omega arith) (λ c. omega arith) loop-again returns)

@@ -10,5 +10,5 @@ returns : tie.Need-returns
 returns c = placed-padded nonce_size c.before.before.before.before.before.args.s.now 0 c.before.before.part.ensures
     c.before.put.ensures
 
-pub nonce-of-spec : {M : Type 1} → statement M
-nonce-of-spec = tie.close (tie.spec (λ c. search rules) (λ c κs. search rules) (λ c κs. search rules) returns)
+pub nonce_of_spec : {M : Type 1} → statement M
+nonce_of_spec = tie.close (tie.spec (λ c. search rules) (λ c κs. search rules) (λ c κs. search rules) returns)

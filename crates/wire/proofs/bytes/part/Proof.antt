@@ -8,19 +8,19 @@ use Rattle.wire.proofs.Runs.{part_past, part_short, part-whole}
 use Rattle.wire.proofs.bytes.part.Statement.{statement}
 use Rattle.wire.proofs.bytes.part.Tie as tie
 
-returns : tie.Need-returns
+returns : tie.Need-returns-then-s-at
 returns c = part_past c.before.before.args.s.now c.before.before.args.at c.before.before.args.n (omega arith)
 
-returns-2 : tie.Need-returns-2
+returns-2 : tie.Need-returns-then-s-at-2
 returns-2 c = part_short c.before.before.before.args.s.now c.before.before.before.args.at
     (length c.before.before.before.args.s.now - c.before.before.before.args.at) c.before.before.before.args.n (omega arith)
     (omega arith)
 
-returns-3 : tie.Need-returns-3
+returns-3 : tie.Need-returns
 returns-3 c = part-whole c.before.before.before.args.s.now c.before.before.before.args.at
     (c.before.before.before.args.at + c.before.before.before.args.n - c.before.before.before.args.at)
     c.before.before.before.args.n (omega arith)
 
-pub part-spec : {M : Type 1} → statement M
-part-spec = tie.close (tie.spec (λ c. search rules) returns (λ c. search rules) (λ c. search rules) (λ c. search rules) (λ c. search rules) returns-2
+pub part_spec : {M : Type 1} → statement M
+part_spec = tie.close (tie.spec (λ c. search rules) returns (λ c. search rules) (λ c. search rules) (λ c. search rules) (λ c. search rules) returns-2
     (λ c. search rules) (λ c. search rules) (λ c. search rules) (λ c. search rules) returns-3)

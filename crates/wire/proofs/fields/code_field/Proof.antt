@@ -8,21 +8,21 @@ use Rattle.wire.proofs.Optional.{code-zero, code-high, code_stops}
 use Rattle.wire.proofs.fields.code_field.Statement.{statement}
 use Rattle.wire.proofs.fields.code_field.Tie as tie
 
-returns : tie.Need-returns
+returns : tie.Need-returns-in_default
 unfolding code_f
-returns c = stops-kept _ _ (rw c.enum_told.given.1 at c.before.before.byte-field.ensures)
+returns c = stops-kept _ _ (rw c.enum_told-1.given.1 at c.before.before.byte_field.ensures)
 
-returns-2 : tie.Need-returns-2
-returns-2 c = code-zero (rw c.before.before.v.given.1 at c.before.before.before.before.byte-field.ensures) (omega arith)
+returns-2 : tie.Need-returns-then-v-eq0
+returns-2 c = code-zero (rw c.before.before.v-1.given.1 at c.before.before.before.before.byte_field.ensures) (omega arith)
 
-returns-3 : tie.Need-returns-3
-returns-3 c = code_stops (rw c.before.before.before.v.given.1 at c.before.before.before.before.before.byte-field.ensures)
-    c.before.if1.false (omega arith)
+returns-3 : tie.Need-returns-then-v
+returns-3 c = code_stops (rw c.before.before.before.v-1.given.1 at c.before.before.before.before.before.byte_field.ensures)
+    c.before.if-v-eq0.false (omega arith)
 
-returns-4 : tie.Need-returns-4
-returns-4 c = code-high (rw c.before.before.before.v.given.1 at c.before.before.before.before.before.byte-field.ensures)
-    c.before.if1.false (omega arith)
+returns-4 : tie.Need-returns
+returns-4 c = code-high (rw c.before.before.before.v-1.given.1 at c.before.before.before.before.before.byte_field.ensures)
+    c.before.if-v-eq0.false (omega arith)
 
-pub code-field-spec : {M : Type 1} → statement M
-code-field-spec = tie.close (tie.spec (λ c. search rules) (λ c κs. search rules) (λ c. search rules) (λ c. search rules) returns returns-2
+pub code_field_spec : {M : Type 1} → statement M
+code_field_spec = tie.close (tie.spec (λ c. search rules) (λ c κs. search rules) (λ c. search rules) (λ c. search rules) returns returns-2
     (λ c. search rules) returns-3 returns-4)

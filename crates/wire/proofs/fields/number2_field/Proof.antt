@@ -9,17 +9,17 @@ use Rattle.wire.proofs.Leaf.{ends, answers, number2-numbered}
 use Rattle.wire.proofs.fields.number2_field.Statement.{statement}
 use Rattle.wire.proofs.fields.number2_field.Tie as tie
 
-returns : tie.Need-returns
-returns c = ends (number2-numbered _ _) _ _ (omega (arith, ap length c.before.rest.ensures))
+returns : tie.Need-returns-then-b-lt-LENGTH
+returns c = ends (number2-numbered _ _) _ _ (omega (arith, ap length c.before.rest-b.ensures))
 
-add-ranged : tie.Need-overflow-add-ranged
-add-ranged c = omega (arith, simp length-drop at (ap length c.before.before.rest.ensures))
+add-ranged : tie.Need-overflow_add-at
+add-ranged c = omega (arith, simp length-drop at (ap length c.before.before.rest-b.ensures))
 
-returns-2 : tie.Need-returns-2
+returns-2 : tie.Need-returns
 unfolding length_at
 returns-2 c =
-    let b = c.before.before.before.rest.ensures in
+    let b = c.before.before.before.rest-b.ensures in
     answers (number2-numbered _ _) _ _ (omega (arith, ap length b)) c.ranged.result (rw b at c.before.number2.ensures) c.ranged.ensures
 
-pub number2-field-spec : {M : Type 1} → statement M
-number2-field-spec = tie.close (tie.spec (λ c κs. search rules) returns (λ c κs. search rules) add-ranged (λ c κs. search rules) returns-2)
+pub number2_field_spec : {M : Type 1} → statement M
+number2_field_spec = tie.close (tie.spec (λ c κs. search rules) returns (λ c κs. search rules) add-ranged (λ c κs. search rules) returns-2)

@@ -6,14 +6,14 @@ use mathlib.Core.Logic.{inl, inr}
 use Rattle.wire.proofs.fields.ranged.Statement.{statement}
 use Rattle.wire.proofs.fields.ranged.Tie as tie
 
-returns : tie.Need-returns
+returns : tie.Need-returns-then-v-lo
 returns c = inl (omega arith)
 
-returns-2 : tie.Need-returns-2
+returns-2 : tie.Need-returns-then-hi-v
 returns-2 c = inr (omega arith)
 
-returns-3 : tie.Need-returns-3
+returns-3 : tie.Need-returns
 returns-3 c = (refl, omega arith, omega arith, refl)
 
-pub ranged-spec : {M : Type 1} → statement M
-ranged-spec = tie.close (tie.spec returns returns-2 returns-3)
+pub ranged_spec : {M : Type 1} → statement M
+ranged_spec = tie.close (tie.spec returns returns-2 returns-3)

@@ -11,42 +11,42 @@ use Rattle.format.proofs.Puts.{wrote-copy}
 use Rattle.wire.proofs.make.copy.Statement.{statement}
 use Rattle.wire.proofs.make.copy.Tie as tie
 
-abbrev invariant-loop : tie.invariant-loop
+abbrev invariant-loop : tie.invariant-loop-i
 invariant-loop out₀ at bytes i₀ out i = (i ≤ length bytes) × (out ≡ paste out₀ at bytes i)
 
-abbrev decreases-loop : tie.decreases-loop
+abbrev decreases-loop : tie.decreases-loop-i
 decreases-loop out₀ at bytes i₀ out i = length bytes - i
 
-loop-holds : tie.Need-loop-init invariant-loop decreases-loop
+loop-holds : tie.Need-loop-i-init invariant-loop decreases-loop
 loop-holds c = (omega arith, paste-zero c.args.out.now c.args.at c.args.bytes.now)
 
-slice-write-out : tie.Need-slice-write-out invariant-loop decreases-loop
+slice-write-out : tie.Need-bounds-out-at invariant-loop decreases-loop
 slice-write-out c = omega (
   arith,
-  ap length c.before.before.loop.invariant.1,
+  ap length c.before.before.loop-i.invariant.1,
   length-paste c.before.before.before.args.out.now
-      c.before.before.before.args.at c.before.before.before.args.bytes.now c.before.before.loop.i (omega arith) (omega arith),
+      c.before.before.before.args.at c.before.before.before.args.bytes.now c.before.before.loop-i.i (omega arith) (omega arith),
 )
 
-loop-again : tie.Need-loop-preserved invariant-loop decreases-loop
+loop-again : tie.Need-loop-i-preserved invariant-loop decreases-loop
 loop-again c =
     let a = c.before.before.before.args in
-    let i = c.before.before.loop.i in (
+    let i = c.before.before.loop-i.i in (
       omega arith,
-      ap (λ (z : List ℕ). set z (a.at + i) (get_or a.bytes.now i 0)) c.before.before.loop.invariant.1 ∙ paste-suc a.out.now a.at
+      ap (λ (z : List ℕ). set z (a.at + i) (get_or a.bytes.now i 0)) c.before.before.loop-i.invariant.1 ∙ paste-suc a.out.now a.at
           a.bytes.now i 0 (omega arith) (omega arith)
           ∙ ap (paste a.out.now a.at a.bytes.now) (sym (add-one i)),
     )
 
-same_length : tie.Need-same-length invariant-loop decreases-loop
-same_length c = ap length c.before.loop.invariant.1 ∙ length-paste c.before.before.args.out.now c.before.before.args.at
-    c.before.before.args.bytes.now c.before.loop.i (omega arith) (omega arith)
+same_length : tie.Need-shape_of-out invariant-loop decreases-loop
+same_length c = ap length c.before.loop-i.invariant.1 ∙ length-paste c.before.before.args.out.now c.before.before.args.at
+    c.before.before.args.bytes.now c.before.loop-i.i (omega arith) (omega arith)
 
 returns : tie.Need-returns invariant-loop decreases-loop
 returns c =
     let a = c.before.before.args in
-    let e : c.before.loop.i ≡ length a.bytes.now = omega arith in
-    rw (c.before.loop.invariant.1, e) (wrote-copy a.out.now a.at a.bytes.now)
+    let e : c.before.loop-i.i ≡ length a.bytes.now = omega arith in
+    rw (c.before.loop-i.invariant.1, e) (wrote-copy a.out.now a.at a.bytes.now)
 
 pub copy_spec : {M : Type 1} → statement M
 copy_spec = tie.close (tie.spec invariant-loop decreases-loop loop-holds (λ c. omega arith) (λ c. omega arith) slice-write-out (λ c. omega arith) (λ c. omega arith)

@@ -15,77 +15,77 @@ use Rattle.wire.proofs.Whole.{bare_as, of_part, of_field, count_of, flag_of}
 use Rattle.wire.proofs.packet.body_field.Statement.{statement}
 use Rattle.wire.proofs.packet.body_field.Tie as tie
 
-returns : tie.Need-returns
+returns : tie.Need-returns-in-2
 unfolding body_at body_label body_number
 returns c =
     let a = c.before.before.before.args in
     let s = shelf a.t in
-    of_part s a.s.now a.c.at any_stamp_l (clock-reply-kind s) (λ d. refl) (λ d. refl) c.before.match.keys1 (λ d. refl)
-    c.any-stamp-field.result c.any-stamp-field.ensures
+    of_part s a.s.now a.c.at any_stamp_l (clock-reply-kind s) (λ d. refl) (λ d. refl) c.before.in-2.keys1 (λ d. refl)
+    c.any_stamp_field.result c.any_stamp_field.ensures
 
-returns-2 : tie.Need-returns-2
+returns-2 : tie.Need-returns-in-3
 unfolding body_at body_label body_number write_at_def length_at share_at share_of_size
 returns-2 c =
     let a = c.before.before.before.args in
     let s = shelf a.t in
-    of_part s a.s.now a.c.at (write_l s) (store-kind s) (λ d. refl) (λ d. refl) c.before.match.keys2 (λ d. refl) c.write-field.result
-    c.write-field.ensures
+    of_part s a.s.now a.c.at (write_l s) (store-kind s) (λ d. refl) (λ d. refl) c.before.in-3.keys2 (λ d. refl) c.write_field.result
+    c.write_field.ensures
 
-returns-3 : tie.Need-returns-3
+returns-3 : tie.Need-returns-in-4
 unfolding body_at body_label body_number
 returns-3 c =
     let a = c.before.before.before.before.args in
     let s = shelf a.t in
-    of_field s a.s.now a.c.at code_l (store-reply-kind s) (λ d. refl) (λ d. refl) c.before.before.match.keys3 (λ d. refl)
-    c.before.code-field.result c.before.code-field.ensures c.unlabelled.ensures
+    of_field s a.s.now a.c.at code_l (store-reply-kind s) (λ d. refl) (λ d. refl) c.before.before.in-4.keys3 (λ d. refl)
+    c.before.code_field.result c.before.code_field.ensures c.unlabelled.ensures
 
-returns-4 : tie.Need-returns-4
+returns-4 : tie.Need-returns-in-8
 unfolding body_at body_label body_number candidate_at
 returns-4 c =
     let a = c.before.before.before.args in
     let s = shelf a.t in
-    of_part s a.s.now a.c.at (any_candidate_l s) (collect-reply-kind s) (λ d. refl) (λ d. refl) c.before.match.keys4 (λ d. refl)
-    c.any-candidate-field.result c.any-candidate-field.ensures
+    of_part s a.s.now a.c.at (any_candidate_l s) (collect-reply-kind s) (λ d. refl) (λ d. refl) c.before.in-8.keys4 (λ d. refl)
+    c.any_candidate_field.result c.any_candidate_field.ensures
 
-returns-5 : tie.Need-returns-5
+returns-5 : tie.Need-returns-in-5
 unfolding body_at body_label body_number candidate_at
 returns-5 c =
     let a = c.before.before.before.args in
     let s = shelf a.t in
     ⊎_elim
     (λ e. of_part s a.s.now a.c.at (candidate_l s) (complete-kind s) (λ d. refl) (λ d. refl) e (λ d. refl)
-    c.candidate-field.result c.candidate-field.ensures)
+    c.candidate_field.result c.candidate_field.ensures)
     (λ e. of_part s a.s.now a.c.at (candidate_l s) (repair-kind s) (λ d. refl) (λ d. refl) e (λ d. refl)
-    c.candidate-field.result c.candidate-field.ensures)
-    c.before.match.keys5
+    c.candidate_field.result c.candidate_field.ensures)
+    c.before.in-5.keys5
 
-returns-6 : tie.Need-returns-6
+returns-6 : tie.Need-returns-in-9
 unfolding body_at body_label body_number
 returns-6 c =
     let a = c.before.before.before.before.args in
     let s = shelf a.t in
     of_field s a.s.now a.c.at (candidates_l s) (filter-kind s) (λ d. refl) (λ d. sym (count_of s (get_or d 0 0) (drop 1 d)))
-    c.before.before.match.keys6 (λ d. refl)
-    c.before.candidates-field.result c.before.candidates-field.ensures c.unlabelled2.ensures
+    c.before.before.in-9.keys6 (λ d. refl)
+    c.before.candidates_field.result c.before.candidates_field.ensures c.unlabelled-in-9.ensures
 
-returns-7 : tie.Need-returns-7
+returns-7 : tie.Need-returns-in-10
 unfolding body_at body_label body_number held_at
 returns-7 c =
     let a = c.before.before.before.args in
     let s = shelf a.t in
     of_part s a.s.now a.c.at (held_l s) (filter-reply-kind s) (λ d. refl) (λ d. flag_of (eqb (get_or d stamp_size 0) 0) _)
-    c.before.match.keys7 (λ d. refl) c.held-field.result c.held-field.ensures
+    c.before.in-10.keys7 (λ d. refl) c.held_field.result c.held_field.ensures
 
-returns-8 : tie.Need-returns-8
+returns-8 : tie.Need-returns-in_default
 returns-8 c =
     let at-start = c.before.before in
     let a = at-start.args in
     let p = at-start.requires in
-    let rest = c.match.rest in
+    let rest = c.in_default.rest in
     bare_as (shelf a.t) a.s.now a.c.at p.2 a.kind p.0 p.1 rest.0.0.0.0.0.0.1 rest.0.0.0.0.0.1
     rest.0.0.0.0.1 rest.0.0.0.1 rest.0.0.1 rest.0.1 rest.1
 
-pub body-field-spec : {M : Type 1} → statement M
-body-field-spec = tie.close (tie.spec (λ c κs. search rules) (λ c κs. search rules) (λ c κs. search rules) (λ c κs. search rules)
+pub body_field_spec : {M : Type 1} → statement M
+body_field_spec = tie.close (tie.spec (λ c κs. search rules) (λ c κs. search rules) (λ c κs. search rules) (λ c κs. search rules)
     (λ c κs. search rules) (λ c κs. search rules) (λ c κs. search rules) (λ c κs. search rules) (λ c κs. search rules)
     returns returns-2 returns-3 returns-4 returns-5 returns-6 returns-7 returns-8)

@@ -14,67 +14,67 @@ use Rattle.wire.proofs.packet.head_field.Tie as tie
 
 -- ---- the fields that were let through
 
-module _ (c : tie.After-kind) where
+module _ (c : tie.In-Value-2) where
   abbrev s : List ℕ
   s = c.before.before.before.before.args.s.now
 
-  kind-took : TookAt (byte_l 1 12) s 0 c.kind.given.0.0 c.kind.given.0.1.0.at
-  kind-took = rw c.kind.given.1 at c.before.before.byte-field.ensures
+  kind-took : TookAt (byte_l 1 12) s 0 c.kind-1.given.0.0 c.kind-1.given.0.1.0.at
+  kind-took = rw c.kind-1.given.1 at c.before.before.byte_field.ensures
 
-module _ (c : tie.After-client) where
-  abbrev kind_at : tie.After-kind
+module _ (c : tie.In-Value-byte_field-4) where
+  abbrev kind_at : tie.In-Value-2
   kind_at = c.before.before.before.before
 
-  client-took : TookAt (byte_l 1 top_client) (s kind_at) kind_at.kind.given.0.1.0.at c.client.given.0.0 c.client.given.0.1.0.at
-  client-took = rw c.client.given.1 at c.before.before.byte-field2.ensures
+  client-took : TookAt (byte_l 1 top_client) (s kind_at) kind_at.kind.given.0.1.0.at c.client-1.given.0.0 c.client-1.given.0.1.0.at
+  client-took = rw c.client-1.given.1 at c.before.before.byte_field-2.ensures
 
-module _ (c : tie.After-server) where
-  abbrev client-at : tie.After-client
+module _ (c : tie.In-Value-byte_field-2-2) where
+  abbrev client-at : tie.In-Value-byte_field-4
   client-at = c.before.before.before.before
 
-  server-took : TookAt (byte_l 1 most_servers) (s (kind_at client-at)) client-at.client.given.0.1.0.at c.server.given.0.0
-      c.server.given.0.1.0.at
-  server-took = rw c.server.given.1 at c.before.before.byte-field3.ensures
+  server-took : TookAt (byte_l 1 most_servers) (s (kind_at client-at)) client-at.client.given.0.1.0.at c.server-1.given.0.0
+      c.server-1.given.0.1.0.at
+  server-took = rw c.server-1.given.1 at c.before.before.byte_field-3.ensures
 
-module _ (c : tie.After-t) where
-  abbrev server_at_lem : tie.After-server
+module _ (c : tie.In-Value-byte_field-3-2) where
+  abbrev server_at_lem : tie.In-Value-byte_field-2-2
   server_at_lem = c.before.before.before.before
 
-  t-took : TookAt (byte_l 1 top_faults) (s (kind_at (client-at server_at_lem))) server_at_lem.server.given.0.1.0.at c.t.given.0.0
-      c.t.given.0.1.0.at
-  t-took = rw c.t.given.1 at c.before.before.byte-field4.ensures
+  t-took : TookAt (byte_l 1 top_faults) (s (kind_at (client-at server_at_lem))) server_at_lem.server.given.0.1.0.at c.t-1.given.0.0
+      c.t-1.given.0.1.0.at
+  t-took = rw c.t-1.given.1 at c.before.before.byte_field-4.ensures
 
-module _ (c : tie.After-call) where
-  abbrev t-at : tie.After-t
+module _ (c : tie.In-Value-number4_field-2) where
+  abbrev t-at : tie.In-Value-byte_field-3-2
   t-at = c.before.before.before.before
 
-  call-took : TookAt (number4_l 1 top_number) (s (kind_at (client-at (server_at_lem t-at)))) t-at.t.given.0.1.0.at c.call.given.0.0
-      c.call.given.0.1.0.at
-  call-took = rw c.call.given.1 at c.before.before.number4-field.ensures
+  call-took : TookAt (number4_l 1 top_number) (s (kind_at (client-at (server_at_lem t-at)))) t-at.t.given.0.1.0.at c.call-1.given.0.0
+      c.call-1.given.0.1.0.at
+  call-took = rw c.call-1.given.1 at c.before.before.number4_field.ensures
 
 -- ---- the needs
 
-returns : tie.Need-returns
+returns : tie.Need-returns-in_default
 unfolding head_f
-returns c = stops-kept _ _ (stops-via _ _ _ (stops_first _ _ (rw c.enum_told.given.1 at c.before.before.byte-field.ensures)))
+returns c = stops-kept _ _ (stops-via _ _ _ (stops_first _ _ (rw c.enum_told-1.given.1 at c.before.before.byte_field.ensures)))
 
-returns-2 : tie.Need-returns-2
+returns-2 : tie.Need-returns-in_default-byte_field
 unfolding head_f
 returns-2 c =
     stops-kept _ _
     (stops-via _ _ _ (stops_second _ _ (kind-took c.before.before.before.before).leaves
-    (stops_first _ _ (rw c.enum-told2.given.1 at c.before.before.byte-field2.ensures))))
+    (stops_first _ _ (rw c.enum_told-in_default-byte_field-1.given.1 at c.before.before.byte_field-2.ensures))))
 
-returns-3 : tie.Need-returns-3
+returns-3 : tie.Need-returns-in_default-byte_field-2
 unfolding head_f
 returns-3 c =
     let y = c.before.before.before.before in
     stops-kept _ _
     (stops-via _ _ _
     (stops_second _ _ (kind-took (kind_at y)).leaves
-    (stops_second _ _ (client-took y).leaves (stops_first _ _ (rw c.enum-told3.given.1 at c.before.before.byte-field3.ensures)))))
+    (stops_second _ _ (client-took y).leaves (stops_first _ _ (rw c.enum_told-in_default-byte_field-2-1.given.1 at c.before.before.byte_field-3.ensures)))))
 
-returns-4 : tie.Need-returns-4
+returns-4 : tie.Need-returns-in_default-byte_field-3
 unfolding head_f
 returns-4 c =
     let z = c.before.before.before.before in
@@ -83,9 +83,9 @@ returns-4 c =
     (stops-via _ _ _
     (stops_second _ _ (kind-took (kind_at y)).leaves
     (stops_second _ _ (client-took y).leaves
-    (stops_second _ _ (server-took z).leaves (stops_first _ _ (rw c.enum-told4.given.1 at c.before.before.byte-field4.ensures))))))
+    (stops_second _ _ (server-took z).leaves (stops_first _ _ (rw c.enum_told-in_default-byte_field-3-1.given.1 at c.before.before.byte_field-4.ensures))))))
 
-returns-5 : tie.Need-returns-5
+returns-5 : tie.Need-returns-in_default-number4_field
 unfolding head_f
 returns-5 c =
     let w = c.before.before.before.before in
@@ -96,15 +96,15 @@ returns-5 c =
     (stops_second _ _ (kind-took (kind_at y)).leaves
     (stops_second _ _ (client-took y).leaves
     (stops_second _ _ (server-took z).leaves
-    (stops_second _ _ (t-took w).leaves (rw c.enum-told5.given.1 at c.before.before.number4-field.ensures))))))
+    (stops_second _ _ (t-took w).leaves (rw c.enum_told-in_default-number4_field-1.given.1 at c.before.before.number4_field.ensures))))))
 
-t-most : (c : tie.After-call) → (t-at c).t.given.0.0 ≤ top_faults
+t-most : (c : tie.In-Value-number4_field-2) → (t-at c).t.given.0.0 ≤ top_faults
 t-most c = (byte_range 1 top_faults (t-took (t-at c))).1
 
-cast-servers : tie.Need-overflow-cast-servers
+cast-servers : tie.Need-overflow_cast-t
 cast-servers c = omega (arith, t-most c.before)
 
-returns-6 : tie.Need-returns-6
+returns-6 : tie.Need-returns-then-servers-server
 returns-6 c =
     let v = c.before.before.before in
     let w = t-at v in
@@ -113,22 +113,22 @@ returns-6 c =
     head-outside (kind-took (kind_at y)) (client-took y) (server-took z) (t-took w) (call-took v) (omega (arith, c.before.servers.ensures))
 
 -- the place past the last field, from the end
-abbrev call_at : tie.Else1 → tie.After-call
+abbrev call_at : tie.Else-servers-server → tie.In-Value-number4_field-2
 call_at c = c.before.before.before
 
-cast-t21 : tie.Need-overflow-cast-t21
+cast-t21 : tie.Need-overflow_cast-result
 cast-t21 c = omega (arith, (byte_range 1 12 (kind-took (kind_at (client-at (server_at_lem (t-at (call_at c))))))).1)
 
-cast-t24 : tie.Need-overflow-cast-t24
+cast-t24 : tie.Need-overflow_cast-result-2
 cast-t24 c = omega (arith, (byte_range 1 top_client (client-took (client-at (server_at_lem (t-at (call_at c)))))).1)
 
-cast-t25 : tie.Need-overflow-cast-t25
+cast-t25 : tie.Need-overflow_cast-result-3
 cast-t25 c = omega (arith, (byte_range 1 most_servers (server-took (server_at_lem (t-at (call_at c))))).1)
 
-cast-t26 : tie.Need-overflow-cast-t26
+cast-t26 : tie.Need-overflow_cast-result-4
 cast-t26 c = omega (arith, t-most (call_at c))
 
-returns-7 : tie.Need-returns-7
+returns-7 : tie.Need-returns
 returns-7 c =
     let v = call_at c in
     let w = t-at v in
@@ -136,8 +136,8 @@ returns-7 c =
     let y = client-at z in
     head-took (kind-took (kind_at y)) (client-took y) (server-took z) (t-took w) (call-took v) (omega (arith, c.before.servers.ensures))
 
-pub head-field-spec : {M : Type 1} → statement M
-head-field-spec = tie.close (tie.spec (λ c. search rules) (λ c. search rules) (λ c κs. search rules) (λ c. search rules) (λ c. search rules) returns
+pub head_field_spec : {M : Type 1} → statement M
+head_field_spec = tie.close (tie.spec (λ c. search rules) (λ c. search rules) (λ c κs. search rules) (λ c. search rules) (λ c. search rules) returns
     (λ c. search rules) (λ c κs. search rules) (λ c. search rules) (λ c. search rules) returns-2 (λ c. search rules) (λ c κs. search rules)
     (λ c. search rules) (λ c. search rules) returns-3 (λ c. search rules) (λ c κs. search rules) (λ c. search rules) (λ c. search rules) returns-4
     (λ c. search rules) (λ c κs. search rules) (λ c. search rules) (λ c. search rules) returns-5 cast-servers (λ c κs. search rules)

@@ -7,39 +7,39 @@ use Rattle.wire.proofs.Whole.{took-packet, kind_range, packet_trailing, packet_b
 use Rattle.wire.proofs.packet.read_packet.Statement.{statement}
 use Rattle.wire.proofs.packet.read_packet.Tie as tie
 
-returns : tie.Need-returns
-returns c = refused (head_stops (rw c.enum_told.given.1 at c.before.before.head-field.ensures))
+returns : tie.Need-returns-in_default
+returns c = refused (head_stops (rw c.enum_told-1.given.1 at c.before.before.head_field.ensures))
 
-body-field-requires : tie.Need-body-field-requires
+body-field-requires : tie.Need-body_field-requires
 body-field-requires c κs = (
-  (kind_range (rw c.before.head.given.1 at c.before.before.before.head-field.ensures)).0,
+  (kind_range (rw c.before.head-1.given.1 at c.before.before.before.head_field.ensures)).0,
   (kind_range
-      (rw c.before.head.given.1 at c.before.before.before.head-field.ensures)).1,
-  (rw c.before.head.given.1 at c.before.before.before.head-field.ensures).leaves.within,
+      (rw c.before.head-1.given.1 at c.before.before.before.head_field.ensures)).1,
+  (rw c.before.head-1.given.1 at c.before.before.before.head_field.ensures).leaves.within,
 )
 
-returns-2 : tie.Need-returns-2
+returns-2 : tie.Need-returns-in_default-body_field
 returns-2 c =
     let at-body-field = c.before.before in
     let at-head-field = at-body-field.before.before.before.before in
-    packet_broken (rw at-body-field.before.before.head.given.1 at at-head-field.head-field.ensures)
-    (rw c.enum-told2.given.1 at c.before.before.body-field.ensures)
+    packet_broken (rw at-body-field.before.before.head-1.given.1 at at-head-field.head_field.ensures)
+    (rw c.enum_told-in_default-body_field-1.given.1 at c.before.before.body_field.ensures)
 
-returns-3 : tie.Need-returns-3
+returns-3 : tie.Need-returns-then-end-packet
 returns-3 c =
     let at-body-field = c.before.before.before.before in
     let at-head-field = at-body-field.before.before.before.before in
-    packet_trailing (rw at-body-field.before.before.head.given.1 at at-head-field.head-field.ensures)
-    (rw c.before.before.label.given.1 at at-body-field.body-field.ensures).leaves (omega arith)
+    packet_trailing (rw at-body-field.before.before.head-1.given.1 at at-head-field.head_field.ensures)
+    (rw c.before.before.label-1.given.1 at at-body-field.body_field.ensures).leaves (omega arith)
 
-returns-4 : tie.Need-returns-4
+returns-4 : tie.Need-returns
 returns-4 c =
     let at-body-field = c.before.before.before.before in
     let at-head-field = at-body-field.before.before.before.before in
-    let head = rw at-body-field.before.before.head.given.1 at at-head-field.head-field.ensures in
-    let body = rw c.before.before.label.given.1 at at-body-field.body-field.ensures in
+    let head = rw at-body-field.before.before.head-1.given.1 at at-head-field.head_field.ensures in
+    let body = rw c.before.before.label-1.given.1 at at-body-field.body_field.ensures in
     took-packet head body (omega arith)
 
-pub read-packet-spec : {M : Type 1} → statement M
-read-packet-spec = tie.close (tie.spec (λ c κs. search rules) (λ c. search rules) (λ c. search rules) returns body-field-requires (λ c. search rules)
+pub read_packet_spec : {M : Type 1} → statement M
+read_packet_spec = tie.close (tie.spec (λ c κs. search rules) (λ c. search rules) (λ c. search rules) returns body-field-requires (λ c. search rules)
     (λ c. search rules) returns-2 returns-3 returns-4)

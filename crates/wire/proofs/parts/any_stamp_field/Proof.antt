@@ -9,29 +9,29 @@ use Rattle.wire.proofs.Through.{past-any-stamp, any-stamp-took, blank-stamp-took
 use Rattle.wire.proofs.parts.any_stamp_field.Statement.{statement}
 use Rattle.wire.proofs.parts.any_stamp_field.Tie as tie
 
-returns : tie.Need-returns
+returns : tie.Need-returns-then-s-at
 returns c = past-any-stamp (omega arith)
 
-returns-2 : tie.Need-returns-2
+returns-2 : tie.Need-returns-in_default
 unfolding any_stamp_f
 returns-2 c =
     let at-enum-told = c.before.before.before in
-    ⊎_elim (λ h. stops_short _ _ _ (rw c.before.before.before.enum_told.given.1 at
-    at-enum-told.before.before.stamp-field.ensures) h) (λ h. stops-blank _ _ _
-    (rw c.before.before.before.enum_told.given.1 at at-enum-told.before.before.stamp-field.ensures) h.0 h.1)
-    (rw c.enum-told2.given.1 at c.before.before.zero-run.ensures)
+    ⊎_elim (λ h. stops_short _ _ _ (rw c.before.before.before.enum_told-1.given.1 at
+    at-enum-told.before.before.stamp_field.ensures) h) (λ h. stops-blank _ _ _
+    (rw c.before.before.before.enum_told-1.given.1 at at-enum-told.before.before.stamp_field.ensures) h.0 h.1)
+    (rw c.enum_told-in_default-1.given.1 at c.before.before.zero_run.ensures)
 
-returns-3 : tie.Need-returns-3
-returns-3 c = any-stamp-took (rw c.before.label.given.1 at c.before.before.before.stamp-field.ensures)
+returns-3 : tie.Need-returns-in-Value
+returns-3 c = any-stamp-took (rw c.before.label-1.given.1 at c.before.before.before.stamp_field.ensures)
 
-returns-4 : tie.Need-returns-4
+returns-4 : tie.Need-returns-in-Past
 returns-4 c =
     let at-enum-told = c.before.before.before.before in
-    blank-stamp-took (rw at-enum-told.enum_told.given.1 at
-    at-enum-told.before.before.stamp-field.ensures) (rw c.before.c1.given.1 at
-    c.before.before.before.zero-run.ensures).within (rw c.before.c1.given.1 at c.before.before.before.zero-run.ensures).zero
-    (rw c.before.c1.given.1 at c.before.before.before.zero-run.ensures).place
+    blank-stamp-took (rw at-enum-told.enum_told-1.given.1 at
+    at-enum-told.before.before.stamp_field.ensures) (rw c.before.c1-1.given.1 at
+    c.before.before.before.zero_run.ensures).within (rw c.before.c1-1.given.1 at c.before.before.before.zero_run.ensures).zero
+    (rw c.before.c1-1.given.1 at c.before.before.before.zero_run.ensures).place
 
-pub any-stamp-field-spec : {M : Type 1} → statement M
-any-stamp-field-spec = tie.close (tie.spec returns (λ c κs. search rules) (λ c. search rules) (λ c. search rules) (λ c κs. search rules)
+pub any_stamp_field_spec : {M : Type 1} → statement M
+any_stamp_field_spec = tie.close (tie.spec returns (λ c κs. search rules) (λ c. search rules) (λ c. search rules) (λ c κs. search rules)
     (λ c. search rules) (λ c. search rules) returns-2 returns-3 returns-4)

@@ -15,61 +15,61 @@ use Rattle.wire.proofs.parts.candidate_field.Tie as tie
 -- ---- the fields that were let through, and the place past each
 
 -- Places far back, each named once: the place, and from where it is seen.
-abbrev start-from-label : tie.After-label → tie.Start
+abbrev start-from-label : tie.In-Value-2 → tie.Start
 start-from-label c = c.before.before.before.before
 
-module _ (c : tie.After-label) where
+module _ (c : tie.In-Value-2) where
   abbrev s : List ℕ
   s = (start-from-label c).args.s.now
 
   abbrev p1 : ℕ
-  p1 = c.label.given.0.1.1.0.at
+  p1 = c.label-1.given.0.1.1.0.at
 
-  stamp-past : TookLabelled stamp_l s (start-from-label c).args.c.at c.label.given.0.0 c.label.given.0.1.0 p1
-  stamp-past = rw c.label.given.1 at c.before.before.stamp-field.ensures
+  stamp-past : TookLabelled stamp_l s (start-from-label c).args.c.at c.label-1.given.0.0 c.label-1.given.0.1.0 p1
+  stamp-past = rw c.label-1.given.1 at c.before.before.stamp_field.ensures
 
-module _ (c : tie.After-c2) where
-  abbrev first : tie.After-label
+module _ (c : tie.In-Past-2) where
+  abbrev first : tie.In-Value-2
   first = c.before.before.before.before
 
-  nonce-ran : Ran nonce_size (s first) (p1 first) c.c2.given.0.0.at
-  nonce-ran = rw c.c2.given.1 at c.before.before.run-field.ensures
+  nonce-ran : Ran nonce_size (s first) (p1 first) c.c2-1.given.0.0.at
+  nonce-ran = rw c.c2-1.given.1 at c.before.before.run_field.ensures
 
 -- ---- the needs
 
-returns : tie.Need-returns
+returns : tie.Need-returns-in_default
 unfolding candidate_f
-returns c = stops-via _ _ _ (stops_first _ _ (rw c.enum_told.given.1 at c.before.before.stamp-field.ensures))
+returns c = stops-via _ _ _ (stops_first _ _ (rw c.enum_told-1.given.1 at c.before.before.stamp_field.ensures))
 
-run-field-requires : tie.Need-run-field-requires
+run-field-requires : tie.Need-run_field-requires
 run-field-requires c κs = (stamp-past c.before).took.leaves.within
 
-returns-2 : tie.Need-returns-2
+returns-2 : tie.Need-returns-in_default-run_field
 unfolding candidate_f
 returns-2 c =
     stops-via _ _ _ (stops_second _ _ (stamp-past c.before.before.before.before).took.leaves
-    (stops_first _ _ (rw c.enum-told2.given.1 at c.before.before.run-field.ensures)))
+    (stops_first _ _ (rw c.enum_told-in_default-run_field-1.given.1 at c.before.before.run_field.ensures)))
 
-run-field-requires-2 : tie.Need-run-field-requires-2
+run-field-requires-2 : tie.Need-run_field-requires-2
 run-field-requires-2 c κs = (nonce-ran c.before.before).leaves.within
 
-returns-3 : tie.Need-returns-3
+returns-3 : tie.Need-returns-in_default-run_field-2
 unfolding candidate_f
 returns-3 c =
     let n = c.before.before.before.before.before in
     stops-via _ _ _
     (stops_second _ _ (stamp-past (first n)).took.leaves
-    (stops_second _ _ (nonce-ran n).leaves (rw c.before.before.before.tags-size.ensures at
-    (rw c.enum-told3.given.1 at c.before.before.run-field2.ensures))))
+    (stops_second _ _ (nonce-ran n).leaves (rw c.before.before.before.tags_size.ensures at
+    (rw c.enum_told-in_default-run_field-2-1.given.1 at c.before.before.run_field-2.ensures))))
 
-returns-4 : tie.Need-returns-4
+returns-4 : tie.Need-returns
 returns-4 c =
     let at-tags-size = c.before.before.before.before in
     let n = at-tags-size.before.before in
     candidate-took (shelf (first n).before.before.before.before.args.t) (stamp-past (first n)) (nonce-ran n)
-    (rw at-tags-size.tags-size.ensures at (rw c.before.c3.given.1 at c.before.before.before.run-field2.ensures))
+    (rw at-tags-size.tags_size.ensures at (rw c.before.c3-1.given.1 at c.before.before.before.run_field-2.ensures))
 
-pub candidate-field-spec : {M : Type 1} → statement M
-candidate-field-spec = tie.close (tie.spec (λ c κs. search rules) (λ c. search rules) (λ c. search rules) returns run-field-requires
+pub candidate_field_spec : {M : Type 1} → statement M
+candidate_field_spec = tie.close (tie.spec (λ c κs. search rules) (λ c. search rules) (λ c. search rules) returns run-field-requires
     (λ c. search rules) (λ c. search rules) returns-2 (λ c κs. search rules) run-field-requires-2 (λ c. search rules) (λ c. search rules) returns-3
     returns-4)

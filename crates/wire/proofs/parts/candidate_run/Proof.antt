@@ -15,39 +15,39 @@ use Rattle.wire.proofs.Lists.{many_broken, run_none, run_more}
 use Rattle.wire.proofs.parts.candidate_run.Statement.{statement}
 use Rattle.wire.proofs.parts.candidate_run.Tie as tie
 
-abbrev invariant-loop : tie.invariant-loop
+abbrev invariant-loop : tie.invariant-loop-i
 invariant-loop s t n at₀ i₀ at i =
     (i ≤ n) × Past (many i (candidate_f (shelf t))) s at₀ (candidate_list (shelf t) i (drop at₀ s)) at (candidate_size_def (shelf t) * i)
 
-abbrev decreases-loop : tie.decreases-loop
+abbrev decreases-loop : tie.decreases-loop-i
 decreases-loop s t n at₀ i₀ at i = n - i
 
-loop-holds : tie.Need-loop-init invariant-loop decreases-loop
+loop-holds : tie.Need-loop-i-init invariant-loop decreases-loop
 loop-holds c = (omega arith, run_none (shelf c.before.args.t) (omega arith))
 
-returns : tie.Need-returns invariant-loop decreases-loop
+returns : tie.Need-returns-in_default invariant-loop decreases-loop
 returns c =
     let at-loop = c.before.before.before.before in
-    many_broken (candidate_f (shelf at-loop.before.before.args.t)) at-loop.loop.i
-    at-loop.before.before.args.n (omega arith) at-loop.loop.invariant.1.leaves
-    (rw c.enum_told.given.1 at c.before.before.candidate-field.ensures)
+    many_broken (candidate_f (shelf at-loop.before.before.args.t)) at-loop.loop-i.i
+    at-loop.before.before.args.n (omega arith) at-loop.loop-i.invariant.1.leaves
+    (rw c.enum_told-1.given.1 at c.before.before.candidate_field.ensures)
 
-loop-again : tie.Need-loop-preserved invariant-loop decreases-loop
+loop-again : tie.Need-loop-i-preserved invariant-loop decreases-loop
 loop-again c =
     let at-loop = c.before.before.before.before.before in (
       omega arith,
       run_more (shelf at-loop.before.before.args.t)
-          at-loop.loop.i at-loop.loop.invariant.1
-          (rw c.before.next.given.1 at c.before.before.before.candidate-field.ensures).took,
+          at-loop.loop-i.i at-loop.loop-i.invariant.1
+          (rw c.before.next-1.given.1 at c.before.before.before.candidate_field.ensures).took,
     )
 
-returns-2 : tie.Need-returns-2 invariant-loop decreases-loop
-returns-2 c = let e : c.before.loop.i ≡ c.before.before.before.args.n = omega arith in subst
+returns-2 : tie.Need-returns invariant-loop decreases-loop
+returns-2 c = let e : c.before.loop-i.i ≡ c.before.before.before.args.n = omega arith in subst
     (λ (k : ℕ). Past (many k (candidate_f (shelf c.before.before.before.args.t))) c.before.before.before.args.s.now
     c.before.before.before.args.c.at (candidate_list (shelf c.before.before.before.args.t) k
-    (drop c.before.before.before.args.c.at c.before.before.before.args.s.now)) c.before.loop.at
-    (candidate_size_def (shelf c.before.before.before.args.t) * k)) e c.before.loop.invariant.1
+    (drop c.before.before.before.args.c.at c.before.before.before.args.s.now)) c.before.loop-i.at
+    (candidate_size_def (shelf c.before.before.before.args.t) * k)) e c.before.loop-i.invariant.1
 
-pub candidate-run-spec : {M : Type 1} → statement M
-candidate-run-spec = tie.close (tie.spec invariant-loop decreases-loop loop-holds (λ c κs. search rules) (λ c. search rules) (λ c. search rules) returns
+pub candidate_run_spec : {M : Type 1} → statement M
+candidate_run_spec = tie.close (tie.spec invariant-loop decreases-loop loop-holds (λ c κs. search rules) (λ c. search rules) (λ c. search rules) returns
     (λ c. omega arith) (λ c. omega arith) loop-again returns-2)

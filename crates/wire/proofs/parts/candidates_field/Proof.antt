@@ -7,35 +7,35 @@ use Rattle.wire.proofs.Lists.{list-took, list_stops, list_breaks}
 use Rattle.wire.proofs.parts.candidates_field.Statement.{statement}
 use Rattle.wire.proofs.parts.candidates_field.Tie as tie
 
-cast-byte-field : tie.Need-overflow-cast-byte-field
+cast-byte-field : tie.Need-overflow_cast-servers
 unfolding shelf
 cast-byte-field c = omega (arith, c.servers.ensures)
 
-returns : tie.Need-returns
+returns : tie.Need-returns-in_default
 returns c = list_stops (shelf c.before.before.before.before.before.args.t) c.before.before.before.servers.result
-    c.before.before.before.servers.ensures (rw c.enum_told.given.1 at c.before.before.byte-field.ensures)
+    c.before.before.before.servers.ensures (rw c.enum_told-1.given.1 at c.before.before.byte_field.ensures)
 
-candidate-run-requires : tie.Need-candidate-run-requires
-candidate-run-requires c κs = (rw c.before.n.given.1 at c.before.before.before.byte-field.ensures).leaves.within
+candidate-run-requires : tie.Need-candidate_run-requires
+candidate-run-requires c κs = (rw c.before.n-1.given.1 at c.before.before.before.byte_field.ensures).leaves.within
 
 -- Places far back, each named once: the place, and from where it is seen.
-abbrev start-from-n : tie.After-n → tie.Start
+abbrev start-from-n : tie.In-Value-2 → tie.Start
 start-from-n c = c.before.before.before.before.before
 
-returns-2 : tie.Need-returns-2
+returns-2 : tie.Need-returns-in_default-candidate_run
 returns-2 c =
     let at_n = c.before.before.before.before in
     list_breaks (shelf (start-from-n at_n).args.t) at_n.before.before.before.servers.result
-    at_n.before.before.before.servers.ensures (rw at_n.n.given.1 at
-    at_n.before.before.byte-field.ensures) (rw c.enum-told2.given.1 at c.before.before.candidate-run.ensures)
+    at_n.before.before.before.servers.ensures (rw at_n.n-1.given.1 at
+    at_n.before.before.byte_field.ensures) (rw c.enum_told-in_default-candidate_run-1.given.1 at c.before.before.candidate_run.ensures)
 
-returns-3 : tie.Need-returns-3
+returns-3 : tie.Need-returns
 returns-3 c =
     let at_n = c.before.before.before.before.before in
     list-took (shelf (start-from-n at_n).args.t) at_n.before.before.before.servers.result at_n.before.before.before.servers.ensures
-    (rw at_n.n.given.1 at at_n.before.before.byte-field.ensures)
-    (rw c.before.c2.given.1 at c.before.before.before.candidate-run.ensures)
+    (rw at_n.n-1.given.1 at at_n.before.before.byte_field.ensures)
+    (rw c.before.c2-1.given.1 at c.before.before.before.candidate_run.ensures)
 
-pub candidates-field-spec : {M : Type 1} → statement M
-candidates-field-spec = tie.close (tie.spec (λ c κs. search rules) cast-byte-field (λ c κs. search rules) (λ c. search rules) (λ c. search rules)
+pub candidates_field_spec : {M : Type 1} → statement M
+candidates_field_spec = tie.close (tie.spec (λ c κs. search rules) cast-byte-field (λ c κs. search rules) (λ c. search rules) (λ c. search rules)
     returns candidate-run-requires (λ c. search rules) (λ c. search rules) returns-2 returns-3)

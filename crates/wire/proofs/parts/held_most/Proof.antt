@@ -5,11 +5,11 @@ use borrow.Author.Tests.{eq-eqb, ne_eqb}
 use Rattle.wire.proofs.parts.held_most.Statement.{statement}
 use Rattle.wire.proofs.parts.held_most.Tie as tie
 
-returns : tie.Need-returns
+returns : tie.Need-returns-then-number-eq0
 returns c = simp (eq-eqb c.before.args.number 0 (omega arith))
 
-returns-2 : tie.Need-returns-2
-returns-2 c = simp (ne_eqb c.before.args.number 0 c.if1.false)
+returns-2 : tie.Need-returns-else-number-eq0
+returns-2 c = simp (ne_eqb c.before.args.number 0 c.if-number-eq0.false)
 
-pub held-most-spec : {M : Type 1} → statement M
-held-most-spec = tie.close (tie.spec returns returns-2)
+pub held_most_spec : {M : Type 1} → statement M
+held_most_spec = tie.close (tie.spec returns returns-2)

@@ -13,45 +13,45 @@ use Rattle.wire.proofs.Through.{share-joined, share_short}
 use Rattle.wire.proofs.parts.share_field.Statement.{statement}
 use Rattle.wire.proofs.parts.share_field.Tie as tie
 
-returns : tie.Need-returns
+returns : tie.Need-returns-in_default
 unfolding share_f
-returns c = stops-via _ _ _ (stops_first _ _ (rw c.enum_told.given.1 at c.before.before.number2-field.ensures))
+returns c = stops-via _ _ _ (stops_first _ _ (rw c.enum_told-1.given.1 at c.before.before.number2_field.ensures))
 
 -- Places far back, each named once: the place, and from where it is seen.
-abbrev start-from-n : tie.After-n → tie.Start
+abbrev start-from-n : tie.In-Value-2 → tie.Start
 start-from-n c = c.before.before.before.before
 
-abbrev n-from-share-size : tie.After-share-size → tie.After-n
+abbrev n-from-share-size : tie.After-share_size-size → tie.In-Value-2
 n-from-share-size c = c.before.before
 
-length-took : (c : tie.After-n)
-    → TookAt (number2_l 0 top_length) (start-from-n c).args.s.now (start-from-n c).args.c.at c.n.given.0.0 c.n.given.0.1.0.at
-length-took c = rw c.n.given.1 at c.before.before.number2-field.ensures
+length-took : (c : tie.In-Value-2)
+    → TookAt (number2_l 0 top_length) (start-from-n c).args.s.now (start-from-n c).args.c.at c.n-1.given.0.0 c.n-1.given.0.1.0.at
+length-took c = rw c.n-1.given.1 at c.before.before.number2_field.ensures
 
 -- what follows the length
-size_is : (c : tie.After-share-size)
-    → c.share-size.result - 2 ≡ share_size_def (shelf (start-from-n (n-from-share-size c)).args.t) (n-from-share-size c).n.given.0.0 - 2
-size_is c = ap (λ (k : ℕ). k - 2) c.share-size.ensures
+size_is : (c : tie.After-share_size-size)
+    → c.share_size-size.result - 2 ≡ share_size_def (shelf (start-from-n (n-from-share-size c)).args.t) (n-from-share-size c).n.given.0.0 - 2
+size_is c = ap (λ (k : ℕ). k - 2) c.share_size-size.ensures
 
-sub-size : tie.Need-overflow-sub-size
+sub-size : tie.Need-overflow_sub-size
 unfolding share_size_def
-sub-size c = omega (arith, c.share-size.ensures)
+sub-size c = omega (arith, c.share_size-size.ensures)
 
-run-field-requires : tie.Need-run-field-requires
+run-field-requires : tie.Need-run_field-requires
 run-field-requires c κs = (length-took (n-from-share-size c)).leaves.within
 
-returns-2 : tie.Need-returns-2
+returns-2 : tie.Need-returns-in_default-run_field
 returns-2 c =
     let at_size = c.before.before.before in
     share_short (shelf (start-from-n (n-from-share-size at_size)).args.t) (length-took (n-from-share-size at_size)) (size_is at_size)
-    (rw c.enum-told2.given.1 at c.before.before.run-field.ensures)
+    (rw c.enum_told-in_default-run_field-1.given.1 at c.before.before.run_field.ensures)
 
-returns-3 : tie.Need-returns-3
+returns-3 : tie.Need-returns
 returns-3 c =
     let at_size = c.before.before.before.before in
     share-joined (shelf (start-from-n (n-from-share-size at_size)).args.t) (length-took (n-from-share-size at_size)) (size_is at_size)
-    (rw c.before.c2.given.1 at c.before.before.before.run-field.ensures)
+    (rw c.before.c2-1.given.1 at c.before.before.before.run_field.ensures)
 
-pub share-field-spec : {M : Type 1} → statement M
-share-field-spec = tie.close (tie.spec (λ c. search rules) (λ c κs. search rules) (λ c. search rules) (λ c. search rules) returns
+pub share_field_spec : {M : Type 1} → statement M
+share_field_spec = tie.close (tie.spec (λ c. search rules) (λ c κs. search rules) (λ c. search rules) (λ c. search rules) returns
     (λ c κs. search rules) sub-size run-field-requires (λ c. search rules) (λ c. search rules) returns-2 returns-3)

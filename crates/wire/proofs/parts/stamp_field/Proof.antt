@@ -16,59 +16,59 @@ use Rattle.wire.proofs.parts.stamp_field.Tie as tie
 -- ---- the fields that were let through, and the place past each
 
 -- Places far back, each named once: the place, and from where it is seen.
-abbrev start-from-number : tie.After-number → tie.Start
+abbrev start-from-number : tie.In-Value-2 → tie.Start
 start-from-number c = c.before.before.before.before
 
-module _ (c : tie.After-number) where
+module _ (c : tie.In-Value-2) where
   abbrev s : List ℕ
   s = (start-from-number c).args.s.now
 
   abbrev p1 : ℕ
-  p1 = c.number.given.0.1.0.at
+  p1 = c.number-1.given.0.1.0.at
 
-  number-took : TookAt (number4_l 1 top_number) s (start-from-number c).args.c.at c.number.given.0.0 p1
-  number-took = rw c.number.given.1 at c.before.before.number4-field.ensures
+  number-took : TookAt (number4_l 1 top_number) s (start-from-number c).args.c.at c.number-1.given.0.0 p1
+  number-took = rw c.number-1.given.1 at c.before.before.number4_field.ensures
 
-module _ (c : tie.After-writer) where
-  abbrev first : tie.After-number
+module _ (c : tie.In-Value-byte_field-2) where
+  abbrev first : tie.In-Value-2
   first = c.before.before.before.before
 
-  writer-took : TookAt (byte_l 1 top_writer) (s first) (p1 first) c.writer.given.0.0 c.writer.given.0.1.0.at
-  writer-took = rw c.writer.given.1 at c.before.before.byte-field.ensures
+  writer-took : TookAt (byte_l 1 top_writer) (s first) (p1 first) c.writer-1.given.0.0 c.writer-1.given.0.1.0.at
+  writer-took = rw c.writer-1.given.1 at c.before.before.byte_field.ensures
 
 -- ---- the needs
 
-returns : tie.Need-returns
+returns : tie.Need-returns-in_default
 unfolding stamp_f
-returns c = stops-via _ _ _ (stops_first _ _ (rw c.enum_told.given.1 at c.before.before.number4-field.ensures))
+returns c = stops-via _ _ _ (stops_first _ _ (rw c.enum_told-1.given.1 at c.before.before.number4_field.ensures))
 
-returns-2 : tie.Need-returns-2
+returns-2 : tie.Need-returns-in_default-byte_field
 unfolding stamp_f
 returns-2 c =
     stops-via _ _ _
     (stops_second _ _ (number-took c.before.before.before.before).leaves (stops_first _ _
-    (rw c.enum-told2.given.1 at c.before.before.byte-field.ensures)))
+    (rw c.enum_told-in_default-byte_field-1.given.1 at c.before.before.byte_field.ensures)))
 
-run-field-requires : tie.Need-run-field-requires
+run-field-requires : tie.Need-run_field-requires
 run-field-requires c κs = (writer-took c.before).leaves.within
 
-returns-3 : tie.Need-returns-3
+returns-3 : tie.Need-returns-in_default-run_field
 unfolding stamp_f
 returns-3 c =
     let w = c.before.before.before.before in
     stops-via _ _ _
     (stops_second _ _ (number-took (first w)).leaves
-    (stops_second _ _ (writer-took w).leaves (rw c.enum-told3.given.1 at c.before.before.run-field.ensures)))
+    (stops_second _ _ (writer-took w).leaves (rw c.enum_told-in_default-run_field-1.given.1 at c.before.before.run_field.ensures)))
 
-cast-t13 : tie.Need-overflow-cast-t13
+cast-t13 : tie.Need-overflow_cast-label
 cast-t13 c = omega (arith, (byte_range 1 top_writer (writer-took c.before.before.before.before.before)).1)
 
-returns-4 : tie.Need-returns-4
+returns-4 : tie.Need-returns
 returns-4 c =
     let w = c.before.before.before.before.before in
-    stamp-took (number-took (first w)) (writer-took w) (rw c.before.c3.given.1 at c.before.before.before.run-field.ensures)
+    stamp-took (number-took (first w)) (writer-took w) (rw c.before.c3-1.given.1 at c.before.before.before.run_field.ensures)
 
-pub stamp-field-spec : {M : Type 1} → statement M
-stamp-field-spec = tie.close (tie.spec (λ c. search rules) (λ c κs. search rules) (λ c. search rules) (λ c. search rules) returns (λ c. search rules)
+pub stamp_field_spec : {M : Type 1} → statement M
+stamp_field_spec = tie.close (tie.spec (λ c. search rules) (λ c κs. search rules) (λ c. search rules) (λ c. search rules) returns (λ c. search rules)
     (λ c κs. search rules) (λ c. search rules) (λ c. search rules) returns-2 run-field-requires (λ c. search rules) (λ c. search rules) returns-3
     cast-t13 returns-4)

@@ -8,23 +8,23 @@ use Rattle.wire.proofs.Through.{write-took}
 use Rattle.wire.proofs.parts.write_field.Statement.{statement}
 use Rattle.wire.proofs.parts.write_field.Tie as tie
 
-returns : tie.Need-returns
+returns : tie.Need-returns-in_default
 unfolding write_f
-returns c = stops-via _ _ _ (stops_first _ _ (rw c.enum_told.given.1 at c.before.before.stamp-field.ensures))
+returns c = stops-via _ _ _ (stops_first _ _ (rw c.enum_told-1.given.1 at c.before.before.stamp_field.ensures))
 
-returns-2 : tie.Need-returns-2
+returns-2 : tie.Need-returns-in_default-share_field
 unfolding write_f
 returns-2 c =
     let at_label = c.before.before.before.before in
-    stops-via _ _ _ (stops_second _ _ (rw at_label.label.given.1 at at_label.before.before.stamp-field.ensures).took.leaves
-    (rw c.enum-told2.given.1 at c.before.before.share-field.ensures))
+    stops-via _ _ _ (stops_second _ _ (rw at_label.label-1.given.1 at at_label.before.before.stamp_field.ensures).took.leaves
+    (rw c.enum_told-in_default-share_field-1.given.1 at c.before.before.share_field.ensures))
 
-returns-3 : tie.Need-returns-3
+returns-3 : tie.Need-returns
 returns-3 c =
     let at_label = c.before.before.before.before.before in
-    write-took (shelf at_label.before.before.before.before.args.t) (rw at_label.label.given.1 at
-    at_label.before.before.stamp-field.ensures) (rw c.before.n.given.1 at c.before.before.before.share-field.ensures)
+    write-took (shelf at_label.before.before.before.before.args.t) (rw at_label.label-1.given.1 at
+    at_label.before.before.stamp_field.ensures) (rw c.before.n-1.given.1 at c.before.before.before.share_field.ensures)
 
-pub write-field-spec : {M : Type 1} → statement M
-write-field-spec = tie.close (tie.spec (λ c κs. search rules) (λ c. search rules) (λ c. search rules) returns (λ c κs. search rules)
+pub write_field_spec : {M : Type 1} → statement M
+write_field_spec = tie.close (tie.spec (λ c κs. search rules) (λ c. search rules) (λ c. search rules) returns (λ c κs. search rules)
     (λ c. search rules) (λ c. search rules) returns-2 returns-3)

@@ -6,12 +6,12 @@ use Rattle.cluster.specs.Config.{shelf}
 use Rattle.wire.proofs.sizes.candidate_size.Statement.{statement}
 use Rattle.wire.proofs.sizes.candidate_size.Tie as tie
 
-add-result : tie.Need-overflow-add-result
+add-result : tie.Need-overflow_add-result
 unfolding shelf
-add-result c = omega (arith, c.tags-size.ensures)
+add-result c = omega (arith, c.tags_size.ensures)
 
 returns : tie.Need-returns
-returns c = omega (arith, c.tags-size.ensures)
+returns c = omega (arith, c.tags_size.ensures)
 
-pub candidate-size-spec : {M : Type 1} → statement M
-candidate-size-spec = tie.close (tie.spec (λ c κs. search rules) add-result returns)
+pub candidate_size_spec : {M : Type 1} → statement M
+candidate_size_spec = tie.close (tie.spec (λ c κs. search rules) add-result returns)

@@ -7,42 +7,42 @@ use Rattle.wire.proofs.Lengths.{fragment-few}
 use Rattle.wire.proofs.sizes.share_size.Statement.{statement}
 use Rattle.wire.proofs.sizes.share_size.Tie as tie
 
-add-result : tie.Need-overflow-add-result
-add-result c = omega (arith, c.fragment-size.ensures, fragment-few c.before.args.t c.before.args.n)
+add-result : tie.Need-overflow_add-result
+add-result c = omega (arith, c.fragment_size.ensures, fragment-few c.before.args.t c.before.args.n)
 
-add-result-2 : tie.Need-overflow-add-result-2
+add-result-2 : tie.Need-overflow_add-result-2
 unfolding shelf
 add-result-2 c = omega (
   arith,
-  c.before.fragment-size.ensures,
+  c.before.fragment_size.ensures,
   fragment-few c.before.before.args.t c.before.before.args.n,
-  c.digests-size.ensures,
+  c.digests_size.ensures,
 )
 
-add-result-3 : tie.Need-overflow-add-result-3
+add-result-3 : tie.Need-overflow_add-result-3
 unfolding shelf
 add-result-3 c = omega (
   arith,
-  c.before.fragment-size.ensures,
+  c.before.fragment_size.ensures,
   fragment-few c.before.before.args.t c.before.before.args.n,
-  c.digests-size.ensures,
+  c.digests_size.ensures,
 )
 
-add-result-4 : tie.Need-overflow-add-result-4
+add-result-4 : tie.Need-overflow_add-result-4
 unfolding shelf
 add-result-4 c = omega (
   arith,
-  c.before.before.fragment-size.ensures,
+  c.before.before.fragment_size.ensures,
   fragment-few c.before.before.before.args.t
       c.before.before.before.args.n,
-  c.before.digests-size.ensures,
-  c.tags-size.ensures,
+  c.before.digests_size.ensures,
+  c.tags_size.ensures,
 )
 
 returns : tie.Need-returns
 unfolding share_size_def
-returns c = rw (c.tags-size.ensures, c.before.digests-size.ensures, c.before.before.fragment-size.ensures)
+returns c = rw (c.tags_size.ensures, c.before.digests_size.ensures, c.before.before.fragment_size.ensures)
 
-pub share-size-spec : {M : Type 1} → statement M
-share-size-spec = tie.close (tie.spec (λ c κs. search rules) add-result (λ c κs. search rules) add-result-2 add-result-3 (λ c κs. search rules)
+pub share_size_spec : {M : Type 1} → statement M
+share_size_spec = tie.close (tie.spec (λ c κs. search rules) add-result (λ c κs. search rules) add-result-2 add-result-3 (λ c κs. search rules)
     add-result-4 returns)

@@ -10,9 +10,9 @@ returns : tie.Need-returns
 unfolding head_at_def
 returns c =
     c.new.ensures ∙ λ i. record {
-      stamp = c.before.before.before.stamp-at.ensures i;
-      nonce = (c.before.nonce-of.ensures ∙ ap (padded nonce_size) c.before.before.rest.ensures) i;
+      stamp = c.before.before.before.stamp_at-stamp.ensures i;
+      nonce = (c.before.nonce_of-nonce.ensures ∙ ap (padded nonce_size) c.before.before.rest.ensures) i;
     }
 
-pub head-at-spec : {M : Type 1} → statement M
-head-at-spec = tie.close (tie.spec (λ c κs. search rules) (λ c κs. search rules) (λ c κs. search rules) (λ c κs. search rules) returns)
+pub head_at_spec : {M : Type 1} → statement M
+head_at_spec = tie.close (tie.spec (λ c κs. search rules) (λ c κs. search rules) (λ c κs. search rules) (λ c κs. search rules) returns)

@@ -8,5 +8,5 @@ returns : tie.Need-returns
 unfolding stamp_at_def
 returns c = λ i. record { number = c.before.number4.ensures i; writer = c.byte_at.ensures i }
 
-pub label-at-spec : {M : Type 1} → statement M
-label-at-spec = tie.close (tie.spec (λ c κs. search rules) (λ c κs. search rules) returns)
+pub label_at_spec : {M : Type 1} → statement M
+label_at_spec = tie.close (tie.spec (λ c κs. search rules) (λ c κs. search rules) returns)
