@@ -117,7 +117,7 @@ module _ {M : Type 1} {𝓤 : Ura M} (𝓛 : Logic 𝓤) (at_mem : Memory → SP
   φ r kept' = (r ≡ started (begin_read_def party.t party.client h kept.now)) × (kept' ≡ (begin_read_def party.t party.client h kept.now).kept)
 
   goes : Is T.the_row h (LL.vals T.the_type T'.the_laws h) → ent 𝓤 (sep 𝓤 (sep 𝓤 (A.lft κ₁ q₁) (sem 𝓛 ftrue)) (sem 𝓛 others))
-      ((Callee 𝓛 at_mem run).pre to-callee)
+      ((Callee 𝓛 at_mem run).requires to-callee)
   goes is =
       qed 𝓛 ((‵ (flft κ₁ q₁) ⊛ ‵ ftrue) ∷ ‵ others ∷ []) ∵ move ! (1 ∷ []) $ owned ! T.the_row (Is T.the_row)
       (LL.makes T.the_type T'.the_plain 𝓛) h _ is $ fjoin ! $
@@ -160,7 +160,7 @@ module _ {M : Type 1} {𝓤 : Ura M} (𝓛 : Logic 𝓤) (at_mem : Memory → SP
         assigns ! (of_opd ! (load ! (from ! (hop ! (look ! 17 refl) (stop !))) (look_in ! 0 (whole !)))) (from ! (stop !))
         (init ! 9 refl ((LL.lawful T.the_type T'.the_laws 𝓛).typed h _ g).0) $
         assigns ! (addr ! (from ! (hop ! (look ! 15 refl) (stop !)))) (from ! (stop !)) (init ! 7 refl (tt, tt)) $
-        move ! (5 ∷ 6 ∷ []) $ use2 𝓛 (raw ((Callee 𝓛 at_mem run).pre to-callee)) (goes g) $
+        move ! (5 ∷ 6 ∷ []) $ use2 𝓛 (raw ((Callee 𝓛 at_mem run).requires to-callee)) (goes g) $
         -- the call, and what it ensures at some last values
         calls_at ! fm (Callee 𝓛 at_mem run) known to-callee
         (and_then ! (load ! (from ! (stop !)) (look ! 8 refl))

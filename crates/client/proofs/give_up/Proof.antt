@@ -100,7 +100,7 @@ module _ {M : Type 1} {𝓤 : Ura M} (𝓛 : Logic 𝓤) (at_mem : Memory → SP
   φ r = stopped r ≡ give_up_def party.t party.client h
 
   goes : Is T.the_row h (LL.vals T.the_type T'.the_laws h) → ent 𝓤 (sep 𝓤 (sem 𝓛 ftrue) (sem 𝓛 others))
-      ((Callee 𝓛 at_mem run).pre to-callee)
+      ((Callee 𝓛 at_mem run).requires to-callee)
   goes is =
       qed 𝓛 (‵ ftrue ∷ ‵ others ∷ []) ∵ move ! (1 ∷ []) $ owned ! T.the_row (Is T.the_row) (LL.makes T.the_type T'.the_plain 𝓛) h _ is $
       fjoin ! $
@@ -138,7 +138,7 @@ module _ {M : Type 1} {𝓤 : Ura M} (𝓛 : Logic 𝓤) (at_mem : Memory → SP
         -- [the state's cell; what it owns; the open borrow; obs; auth; the other tokens; what the others own; the last local; …; room for _0; …]
         assigns ! (of_opd ! (load ! (from ! (hop ! (look ! 13 refl) (stop !))) (look_in ! 0 (whole !)))) (from ! (stop !))
         (init ! 7 refl ((LL.lawful T.the_type T'.the_laws 𝓛).typed h _ g).0) $
-        move ! (5 ∷ 6 ∷ []) $ use2 𝓛 (raw ((Callee 𝓛 at_mem run).pre to-callee)) (goes g) $
+        move ! (5 ∷ 6 ∷ []) $ use2 𝓛 (raw ((Callee 𝓛 at_mem run).requires to-callee)) (goes g) $
         -- the call, and what it ensures at some last values
         calls_at ! fm (Callee 𝓛 at_mem run) known to-callee
         (and_then ! (load ! (from ! (stop !)) (look ! 6 refl)) (and_then ! (load ! (from ! (stop !)) (look ! 10 refl)) (no_more !))) (λ w.

@@ -183,7 +183,7 @@ module _ {M : Type 1} {𝓤 : Ura M} (𝓛 : Logic 𝓤) (at_mem : Memory → SP
 
   goes : Is T.the_row h (LL.vals T.the_type T'.the_laws h) → ent 𝓤
       (sep 𝓤 (sep 𝓤 (A.lft κ₁ q₁) (sep 𝓤 (A.lft κ₂ q₂) (sep 𝓤 (A.lft κ₃ q₃) (sep 𝓤 (A.lft κ₄ q₄) (sep 𝓤 (A.lft κ₅ q₅) (sem 𝓛 ftrue))))))
-      (sem 𝓛 others)) ((Callee 𝓛 at_mem run).pre to-callee)
+      (sem 𝓛 others)) ((Callee 𝓛 at_mem run).requires to-callee)
   goes is =
       qed 𝓛 ((‵ (flft κ₁ q₁) ⊛ ‵ (flft κ₂ q₂) ⊛ ‵ (flft κ₃ q₃) ⊛ ‵ (flft κ₄ q₄) ⊛ ‵ (flft κ₅ q₅) ⊛ ‵ ftrue) ∷ ‵ others ∷ []) ∵ move ! (1 ∷ []) $
       owned ! T.the_row (Is T.the_row) (LL.makes T.the_type T'.the_plain 𝓛) h _ is $ fjoin ! $
@@ -241,7 +241,7 @@ module _ {M : Type 1} {𝓤 : Ura M} (𝓛 : Logic 𝓤) (at_mem : Memory → SP
         assigns ! (agg ! (and_then ! (load ! (from ! (stop !)) (look ! 9 refl))
         (and_then ! (load ! (from ! (fld ! refl (stop !))) (look_in ! 17 (sub ! 1 refl (whole !)))) (no_more !)))) (from ! (stop !))
         (init ! 7 refl (tt, (tt, (record { fits = out-room.0 }, tt)))) $
-        move ! (5 ∷ 6 ∷ []) $ use2 𝓛 (raw ((Callee 𝓛 at_mem run).pre to-callee)) (goes g) $
+        move ! (5 ∷ 6 ∷ []) $ use2 𝓛 (raw ((Callee 𝓛 at_mem run).requires to-callee)) (goes g) $
         -- the call, and what it ensures at some last values
         calls_at ! fm (Callee 𝓛 at_mem run) known to-callee
         (and_then ! (load ! (from ! (stop !)) (look ! 12 refl))

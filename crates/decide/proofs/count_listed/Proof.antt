@@ -50,7 +50,7 @@ add-n c =
     let at-else1 = else1-from-entry c in
     let a = at-else1.before.before.before.args in
     let p = enters (candidates_in (shelf a.t) a.kept.now) in
-    let u = known at-else1.before.is-usable.ensures at-else1.if1.left in
+    let u = known at-else1.before.is_usable.ensures at-else1.if-not-is_usable.left in
     omega (
       arith,
       c.before.before.loop-i.invariant.1,
@@ -66,7 +66,7 @@ add-n c =
 add-i : tie.Need-overflow_add-i invariant-loop decreases-loop
 add-i c =
     let at-else1 = else1-from-entry c in
-    let u = known at-else1.before.is-usable.ensures at-else1.if1.left in omega
+    let u = known at-else1.before.is_usable.ensures at-else1.if-not-is_usable.left in omega
     (arith, c.before.before.before.servers-s.ensures.1, u.high)
 
 loop-again : tie.Need-loop-i-preserved invariant-loop decreases-loop

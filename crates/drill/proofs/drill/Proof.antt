@@ -34,10 +34,10 @@ list-requires c κs =
     let at-work = c.before.before.before in
     let at-rows-for = rows-for-from-work at-work in
     let a = (start-from-rows-for at-rows-for).args in
-    let m : at-rows-for.rows-for.result ≡ rows_for_def (length (lines a.sheet.now)) =
-    at-rows-for.rows-for.ensures ∙ ap rows_for_def at-rows-for.before.count-lines.ensures in (
+    let m : at-rows-for.rows_for.result ≡ rows_for_def (length (lines a.sheet.now)) =
+    at-rows-for.rows_for.ensures ∙ ap rows_for_def at-rows-for.before.count_lines.ensures in (
       (
-        c.before.before.before.work-1.given ∙ at-rows-for.before.before.if1.left,
+        c.before.before.before.work-1.given ∙ at-rows-for.before.before.if-work-ne-WORK.left,
         at-work.before.clear.ensures ∙ ap (λ (n : ℕ). replicate n 0) (sym c.before.before.before.work-1.given),
       ),
       room_fits (length a.out.now) _ (rw m at at-work.before.before.before.if-out-rows_for.false),
@@ -49,9 +49,9 @@ returns-3 c =
     let at-work = at-work2.before.before.before.before.before.before.before in
     let at-rows-for = rows-for-from-work at-work in
     let a = (start-from-rows-for at-rows-for).args in
-    let m : at-rows-for.rows-for.result ≡ rows_for_def (length (lines a.sheet.now)) =
-    at-rows-for.rows-for.ensures ∙ ap rows_for_def at-rows-for.before.count-lines.ensures in
-    drill-0 a.sheet.now a.out.now a.work.now at-rows-for.before.before.if1.left (room_fits (length a.out.now) _
+    let m : at-rows-for.rows_for.result ≡ rows_for_def (length (lines a.sheet.now)) =
+    at-rows-for.rows_for.ensures ∙ ap rows_for_def at-rows-for.before.count_lines.ensures in
+    drill-0 a.sheet.now a.out.now a.work.now at-rows-for.before.before.if-work-ne-WORK.left (room_fits (length a.out.now) _
     (rw m at at-work.before.before.before.if-out-rows_for.false)) at-work2.before.before.before.list-n.ensures
     (c.before.before.clear-2.ensures ∙ ap (λ (n : ℕ). replicate n 0) (at-work2.work-2-1.given ∙ at-work.work-1.given))
 

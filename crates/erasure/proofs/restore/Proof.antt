@@ -190,7 +190,7 @@ returns-3 c =
     let s = select at in
     let p = past s in
     let size = at_size.size in
-    let points = take (at.servers-of.result - 0) at.before.numbered.result in
+    let points = take (at.servers_of-s.result - 0) at.before.numbered-points.result in
     let enough : (shelf (t p)).threshold ≤ length (first_different (shelf (t p)).threshold (servers p)) =
     subst (λ (x : ℕ). x ≤ length (first_different x (servers p))) s.before.threshold-of.ensures (omega (arith, counted_is s, full at)) in
     let made : ℕ → ℕ → List ℕ = λ x y. rebuilt_of x y (n p) points (map (point_of points) (chosen s).servers) (fragments p)

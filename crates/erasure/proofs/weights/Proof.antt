@@ -174,7 +174,7 @@ returns-3 c =
           ++ replicate (rows_room - m * m) 0;
     } in
     ap₂ (λ (u r : List ℕ). record { number = 0; count = k s; servers = u; rows = r }) c.used.ensures at-of-chosen.of_chosen-rows.ensures
-    ∙ ap₂ (λ (m : ℕ) (l : List ℕ). answer points m l) (all-chosen s (full at)) s.select.ensures.servers-is
+    ∙ ap₂ (λ (m : ℕ) (l : List ℕ). answer points m l) (all-chosen s (full at)) s.select.ensures.servers_is
     ∙ ap (λ (all : List ℕ). answer all (k s) (servers_at (servers p) (first_different (k s) (servers p)))) (table at).points
     ∙ ap final threshold
     ∙ sym (weights-accepted (t p) (servers p) (not-refused (t p) (servers p) (none_applies p) enough))

@@ -27,7 +27,7 @@ loop-again c =
     let at = c.before.loop-i in (
       omega arith,
       simp length-set at.invariant.1,
-      copy_more at.i c.before.before.args.t1 at.out (omega arith) (omega arith) at.invariant.2,
+      copy_more at.i c.before.before.args.full at.out (omega arith) (omega arith) at.invariant.2,
     )
 
 returns : tie.Need-returns invariant-loop decreases-loop

@@ -57,15 +57,15 @@ note-reply-requires : tie.Need-note_reply-noted-requires
 note-reply-requires c κs =
     let q = start-from-higher c.before.before.before in
     let a = q.args in (
-      (ready-faults a.party.t a.party.client a.call a.reply.now a.passed.head q.pre.0).1,
-      ready-server a.party.t a.party.client a.call a.reply.now a.passed.head q.pre.0,
+      (ready-faults a.party.t a.party.client a.call a.reply.now a.passed.head q.requires.0).1,
+      ready-server a.party.t a.party.client a.call a.reply.now a.passed.head q.requires.0,
     )
 
 is-full-requires : tie.Need-is_full-ends-requires
 is-full-requires c κs =
     let q = start-from-higher c.before.before.before.before in
     let a = q.args in
-    (ready-faults a.party.t a.party.client a.call a.reply.now a.passed.head q.pre.0).1
+    (ready-faults a.party.t a.party.client a.call a.reply.now a.passed.head q.requires.0).1
 
 abbrev higher-from-clock-refusal : tie.After-clock_refusal-n → tie.After-higher-high
 higher-from-clock-refusal c = c.before.before.before.before.before.before
@@ -76,13 +76,13 @@ module _ (c : tie.After-clock_refusal-n) where
   start = start-from-higher (higher-from-clock-refusal c)
 
   abbrev high : ℕ
-  high = (higher-from-clock-refusal c).higher.result
+  high = (higher-from-clock-refusal c).higher-high.result
 
   high_is : high ≡ higher real start.args.writers.now start.args.call.high (stamp_at_def (drop head_size start.args.reply.now))
   high_is =
       let at-higher = higher-from-clock-refusal c in
-      at-higher.higher.ensures ∙ ap (λ (d : List ℕ). higher real start.args.writers.now start.args.call.high (stamp_at_def d))
-      at-higher.before.before.rest.ensures
+      at-higher.higher-high.ensures ∙ ap (λ (d : List ℕ). higher real start.args.writers.now start.args.call.high (stamp_at_def d))
+      at-higher.before.before.rest-body.ensures
 
   ended : (v : Bool) → c.before.is_full-ends.result ≡ v
       → ends (shelf start.args.party.t) start.args.call start.args.passed.head.server ≡ v

@@ -31,14 +31,14 @@ found-requires c κs =
     let at-decide = at-decision2.before.before.before in
     let at-slice-known = slice-known-from-decide at-decide in
     let a = at-slice-known.before.args in
-    let p = at-slice-known.before.pre in
+    let p = at-slice-known.before.requires in
     let d = at-decision2.decision-in-Found-1.given in
     let F = (shelf-fits a.t p.0 p.1.0).few in
     let l : length {A = ℕ} (replicate content_room 0) ≡ content_room = length-replicate {A = ℕ} content_room 0 in
     let e : (decided a.t a.call.tally.marks a.kept.now (replicate content_room 0)).answer ≡ decision_answer
     (decisions.Found d.0.0 d.0.1.0 d.0.1.1.0) = answer-is at-decide ∙ ap decision_answer d.1 in
     let r = found_range a.t a.call.tally.marks a.kept.now (record { low = p.0; high = p.1.0; size = p.1.1.0 })
-    (λ k. (at-slice-known.slice-known.given k).fits) (replicate content_room 0) (omega (arith, l)) d.0.0 d.0.1.0 d.0.1.1.0 e in
+    (λ k. (at-slice-known.slice_known-1.given k).fits) (replicate content_room 0) (omega (arith, l)) d.0.0 d.0.1.0 d.0.1.1.0 e in
     let z : length at-decide.decide-decision.new.1.1.1.0 ≡ 1024 = search rules in
     let q : length c.before.before.part-content.result.now ≤ length at-decide.decide-decision.new.1.1.1.0 = rw c.before.before.part-content.ensures
     (part_short at-decide.decide-decision.new.1.1.1.0 d.0.1.1.0) in

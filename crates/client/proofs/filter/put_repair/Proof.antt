@@ -16,7 +16,7 @@ write-at-requires c κs =
     let at-tags-at = c.before.before.before.before in
     let at-start = start-from-tags-at at-tags-at in
     let a = at-start.args in
-    let p = at-start.pre in
+    let p = at-start.requires in
     rw at-tags-at.before.before.part-name.ensures (name-fits a.led.t a.kept.now a.led.slot a.led.server a.n p.0
     p.1.1.1.1.1.0 p.1.0
     p.1.1.0 p.1.1.1.0 p.1.1.1.1.0 a.bytes.now p.1.1.1.1.1.1)
@@ -27,7 +27,7 @@ write-at-requires-2 c κs =
     let at-tags-at = at-write-at.before.before.before.before.before in
     let at-start = start-from-tags-at at-tags-at in
     let a = at-start.args in
-    let p = at-start.pre in
+    let p = at-start.requires in
     rw (
       at-write-at.before.before.part-tags.ensures,
       at-write-at.before.before.before.tags_size.ensures,
@@ -45,7 +45,7 @@ returns c =
     let at-tags-at = at-write-at.before.before.before.before.before in
     let at-start = start-from-tags-at at-tags-at in
     let a = at-start.args in
-    let p = at-start.pre in
+    let p = at-start.requires in
     c.before.before.write_at-2.ensures
     ∙ rw (
       at-write-at.write_at.ensures,

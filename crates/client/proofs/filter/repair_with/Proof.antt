@@ -31,8 +31,8 @@ write-at-requires-2 c κs =
     let q : length c.part.result.now ≤ n = rw c.part.ensures (part-most at-put-repair.put_repair.new.0 0 n) in
     omega (
       arith,
-      at-start.pre.0,
-      at-start.pre.1.1.1.1.0,
+      at-start.requires.0,
+      at-start.requires.1.1.1.1.0,
     )
 
 returns : tie.Need-returns
@@ -42,7 +42,7 @@ returns c =
     let at-put-repair = at-write-at.before.before.before in
     let at-start = start-from-put-repair at-put-repair in
     let a = at-start.args in
-    let p = at-start.pre in
+    let p = at-start.requires in
     let R : List ℕ = repair_bytes a.led.t a.kept.now a.led.slot a.led.server (length a.content.now) in
     let e : at-put-repair.put_repair.new.0 ≡ put (replicate candidate_slot 0) 0 R =
     at-put-repair.put_repair.ensures in

@@ -44,7 +44,7 @@ note-reply-requires : tie.Need-note_reply-noted-requires
 note-reply-requires c κs =
     let q = (shared-slice-known-from-put-reply c.before.before).before.before in
     let a = q.args in
-    let y = q.pre.0 in (
+    let y = q.requires.0 in (
       (ready-faults a.party.t a.party.client a.call a.reply.now a.head y).1,
       ready-server a.party.t a.party.client a.call
           a.reply.now a.head y,
@@ -54,7 +54,7 @@ is-full-requires : tie.Need-is_full-requires
 is-full-requires c κs =
     let q = (shared-slice-known-from-put-reply c.before.before.before).before.before in
     let a = q.args in
-    (ready-faults a.party.t a.party.client a.call a.reply.now a.head q.pre.0).1
+    (ready-faults a.party.t a.party.client a.call a.reply.now a.head q.requires.0).1
 
 abbrev put-reply-from-is-full : tie.After-is_full → tie.After-put_reply
 put-reply-from-is-full c = c.before.before.before.before
@@ -76,7 +76,7 @@ judge-requires c κs =
     let at-put-reply = put-reply-from-is-full at-is-full in
     let at-shared-slice-known = shared-slice-known-from-put-reply at-put-reply in
     let a = at-shared-slice-known.before.before.args in
-    let p = at-shared-slice-known.before.before.pre in
+    let p = at-shared-slice-known.before.before.requires in
     let r = ready-faults a.party.t a.party.client a.call a.reply.now a.head p.0 in
     (r.0, (r.1, (omega (arith, p.1.1.0), p.1.1.1)))
 
@@ -87,8 +87,8 @@ returns c =
     let at-put-reply = at-is-full.before.before.before.before in
     let at-shared-slice-known = shared-slice-known-from-put-reply at-put-reply in
     let a = at-shared-slice-known.before.before.args in
-    let p = at-shared-slice-known.before.before.pre in
-    let Y : Bytes a.reply.now = λ k. (at-shared-slice-known.shared-slice-known.given k).fits in
+    let p = at-shared-slice-known.before.before.requires in
+    let Y : Bytes a.reply.now = λ k. (at-shared-slice-known.shared_slice_known-1.given k).fits in
     let e = ended at-is-full _ at-judge.before.before.before.if-is_full.true in
     let at : ℕ = replies_place + reply_slot * (a.head.server - 1) in
     let N : Bytes at-put-reply.put_reply.new.0 = λ k. (at-is-full.before.before.slice_known-3-1.given k).fits in
@@ -109,8 +109,8 @@ returns-2 c =
     let at-put-reply = at-is-full.before.before.before.before in
     let at-shared-slice-known = shared-slice-known-from-put-reply at-put-reply in
     let a = at-shared-slice-known.before.before.args in
-    let p = at-shared-slice-known.before.before.pre in
-    let Y : Bytes a.reply.now = λ k. (at-shared-slice-known.shared-slice-known.given k).fits in
+    let p = at-shared-slice-known.before.before.requires in
+    let Y : Bytes a.reply.now = λ k. (at-shared-slice-known.shared_slice_known-1.given k).fits in
     let e = ended c.before.before _ c.before.if-is_full.false in
     λ writers keys.
     rw (

@@ -41,7 +41,7 @@ room : (c : tie.At-loop-i invariant-loop decreases-loop)
 room c =
     let at-start = start-from-at-loop c in
     let a = at-start.args in
-    let p = at-start.pre in
+    let p = at-start.requires in
     let i = c.loop-i.i in
     let v = c.loop-i.invariant in
     let w : i ≤ most_servers = omega (arith, v.0, c.before.servers-s.ensures, servers-few a.t p.1.0) in
@@ -53,7 +53,7 @@ put-entry-requires c κs =
     let at-loop = c.before.before in
     let at-start = start-from-at-loop at-loop in
     let a = at-start.args in
-    let p = at-start.pre in
+    let p = at-start.requires in
     let v = c.before.before.loop-i.invariant in
     let r = room c.before.before in (
       p.1.0,
@@ -68,7 +68,7 @@ loop-again c =
     let at-loop = c.before.before.before.before.before in
     let at-start = start-from-at-loop at-loop in
     let a = at-start.args in
-    let p = at-start.pre in
+    let p = at-start.requires in
     let i = at-loop.loop-i.i in
     let v = at-loop.loop-i.invariant in (
       omega arith,

@@ -28,7 +28,7 @@ abbrev put-list-from-put-byte-arg : tie.After-put_byte-arg-1 → tie.After-put_l
 put-list-from-put-byte-arg c = c.before.before.before.before
 
 headed : (c : tie.After-put_head-a) → (c.put_head-a.result ≡ head_size) × (length c.put_head-a.new.0 ≡ length (start-from-put-head c).args.out.now)
-headed c = let at-start = start-from-put-head c in after-head at-start.args.head at-start.args.out.now at-start.pre.1.1.1 c.put_head-a.ensures
+headed c = let at-start = start-from-put-head c in after-head at-start.args.head at-start.args.out.now at-start.requires.1.1.1 c.put_head-a.ensures
 
 -- the candidates that are listed
 abbrev listed : tie.After-put_list-n → List Candidate
@@ -49,17 +49,17 @@ put-list-requires c κs =
 -- the count is what the bytes written tell
 count_is : (c : tie.After-put_byte-arg-1)
     → let at-put-list = put-list-from-put-byte-arg c in
-    (at-put-list.put-list.result - ((put-head-from-put-list at-put-list).put-head.result + 1)) / c.before.candidate_size-size.result ≡
+    (at-put-list.put_list-n.result - ((put-head-from-put-list at-put-list).put_head-a.result + 1)) / c.before.candidate_size-size.result ≡
     length (listed at-put-list)
 count_is c =
     let at-put-list = put-list-from-put-byte-arg c in
     let at-start = start-from-put-head (put-head-from-put-list at-put-list) in
     let a = at-start.args in
-    let p = at-start.pre in
+    let p = at-start.requires in
     let w : ℕ = candidate_size_def (shelf a.t) in
     let l = list_counted a.t a.kept.now p.0 p.1.0 p.1.1.0 (shelf a.t).servers (omega arith) in
-    let d : at-put-list.put-list.result - ((put-head-from-put-list at-put-list).put-head.result + 1) ≡ w * length (listed at-put-list) =
-    omega (arith, at-put-list.put-list.ensures.place, l) in
+    let d : at-put-list.put_list-n.result - ((put-head-from-put-list at-put-list).put_head-a.result + 1) ≡ w * length (listed at-put-list) =
+    omega (arith, at-put-list.put_list-n.ensures.place, l) in
     div-eq_of_eq-mul_right (omega (arith, c.before.candidate_size-size.ensures))
     (d ∙ ap (λ (z : ℕ). z * length (listed at-put-list)) (sym c.before.candidate_size-size.ensures))
 
@@ -67,7 +67,7 @@ cast-size : tie.Need-overflow_cast-t
 cast-size c = omega (arith, (start-from-put-head (put-head-from-put-list c.before.before)).requires.1.0)
 
 sub-count : tie.Need-overflow_sub-n
-sub-count c = omega (arith, (put-list-from-put-byte-arg c).put-list.ensures.place)
+sub-count c = omega (arith, (put-list-from-put-byte-arg c).put_list-n.ensures.place)
 
 div-count : tie.Need-nonzero_div-n
 div-count c = omega (arith, c.before.candidate_size-size.ensures)
@@ -76,7 +76,7 @@ cast-count : tie.Need-overflow_cast-n
 cast-count c =
     let at-start = start-from-put-head (put-head-from-put-list (put-list-from-put-byte-arg c)) in
     let a = at-start.args in
-    let p = at-start.pre in
+    let p = at-start.requires in
     omega (arith, count_is c, count-few a.t a.kept.now p.0 p.1.0 p.1.1.0 (shelf a.t).servers, servers-few a.t p.1.0)
 
 returns : tie.Need-returns
@@ -87,10 +87,10 @@ returns c =
     let at-put-head = put-head-from-put-list at-put-list in
     let at-start = start-from-put-head at-put-head in
     let a = at-start.args in
-    let p = at-start.pre in
+    let p = at-start.requires in
     let l = list-room a.t a.kept.now p.0 p.1.0 p.1.1.0 (shelf a.t).servers (omega arith) in
-    filter-made a.head a.out.now p.1.1.1 at-put-head.put-head.ensures (length (listed at-put-list))
-    (print_many (candidate_f (shelf a.t)) (listed at-put-list)) (omega (arith, l, p.1.0)) at-put-list.put-list.ensures
+    filter-made a.head a.out.now p.1.1.1 at-put-head.put_head-a.ensures (length (listed at-put-list))
+    (print_many (candidate_f (shelf a.t)) (listed at-put-list)) (omega (arith, l, p.1.0)) at-put-list.put_list-n.ensures
     (rw (count_is at_arg) at c.before.before.put_byte.ensures)
 
 pub make_filter_spec : {M : Type 1} → statement M

@@ -35,7 +35,7 @@ unfolding shelf
 make-store-requires c κs =
     let at-start = start-from-head-of c.before.before in
     let a = at-start.args in
-    let p = at-start.pre in
+    let p = at-start.requires in
     let s : a.server ≤ most_servers = omega (arith, p.0, p.1.1.1.0) in (p.0, (p.1.1.0, (s, (p.1.1.1.1.0, p.1.1.1.1.1.0))))
 
 make-chosen-requires : tie.Need-make_chosen-requires
@@ -53,7 +53,7 @@ returns c =
     let at-match = c.before.before.before.before in
     let at-start = start-from-head-of at-match.before in
     let a = at-start.args in
-    let p = at-start.pre in
+    let p = at-start.requires in
     let q = round-bytes a.party.t a.party.client a.server a.call a.kept.now a.call.tally.round refl ∙ store_bytes
     a.party.t a.party.client
     a.server a.call a.kept.now a.call.tally.round at-match.in-2.keys1 p.1.1.0 p.1.1.1.0 in
@@ -75,7 +75,7 @@ returns-3 c =
     let at-match = c.before.before.before.before in
     let at-start = start-from-head-of at-match.before in
     let a = at-start.args in
-    let p = at-start.pre in
+    let p = at-start.requires in
     let r = hand-round a.call p.1.1.1.1.1.1.0 in
     let none = at-match.in_default.rest in
     let q = round-bytes a.party.t a.party.client a.server a.call a.kept.now a.call.tally.round refl ∙ empty-bytes

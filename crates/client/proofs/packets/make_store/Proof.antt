@@ -42,7 +42,7 @@ returns c =
     let at-part2 = at-part4.before.before.before.before in
     let at-start = start-from-part2 at-part2 in
     let a = at-start.args in
-    let p = at-start.pre in
+    let p = at-start.requires in
     let K : Bytes a.kept.now = λ k. (at-part2.before.before.before.shared_slice_known-1.given k).fits in
     let i : ℕ = a.server - 1 in
     let D : List ℕ = bytes_at a.kept.now chosen_place candidate_slot in
@@ -56,7 +56,7 @@ returns c =
     let n = part_short E (share_size_def (shelf a.t) (length_at E)) in
     c.before.before.make_packet.ensures ∙ rw (
       at-part4.before.part-stamp.ensures,
-      at-part4.part.ensures,
+      at-part4.part-chosen.ensures,
       at-part4.before.before.share_size-size.ensures,
       at-part4.before.before.before.number2.ensures,
       at-part2.part-slot.ensures,

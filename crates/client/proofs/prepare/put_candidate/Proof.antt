@@ -28,7 +28,7 @@ returns c =
     let at-write-at = at-write-at2.before.before.before.before in
     let at-start = start-from-write-at at-write-at in
     let a = at-start.args in
-    let p = at-start.pre in
+    let p = at-start.requires in
     c.before.before.write_at-3.ensures ∙ rw (
       at-write-at2.write_at-2.ensures,
       at-write-at.write_at.ensures,

@@ -30,7 +30,7 @@ mul-part c =
     let at-put-tags = c.before.before.before in
     let at-start = start-from-put-tags at-put-tags in
     let a = at-start.args in
-    let p = at-start.pre in
+    let p = at-start.requires in
     omega (arith, c.servers.ensures, servers-few a.t p.1.0)
 
 abbrev put-tags-from-part : tie.After-part-made → tie.After-put_tags
@@ -49,13 +49,13 @@ tags-back c =
     let at-put-tags = put-tags-from-part c in
     let at-start = start-from-put-tags at-put-tags in
     let a = at-start.args in
-    let l = tag-run-length a.keys.now a.stamp.now at-put-tags.before.before.digest.result (shelf a.t).servers in (
+    let l = tag-run-length a.keys.now a.stamp.now at-put-tags.before.before.digest-digest.result (shelf a.t).servers in (
       l,
       run_back (replicate (tag_size * most_servers) 0) (run c) (tag_size * c.before.servers.result) c.part-made.ensures
-          at-put-tags.put-tags.ensures (omega (arith, l, c.before.servers.ensures)) (omega (
+          at-put-tags.put_tags.ensures (omega (arith, l, c.before.servers.ensures)) (omega (
             arith,
             l,
-            servers-few a.t at-start.pre.1.0,
+            servers-few a.t at-start.requires.1.0,
             length-replicate {A = ℕ} (tag_size * most_servers) 0,
           )),
     )
@@ -65,7 +65,7 @@ put-write-requires c κs =
     let at_part = c.before in
     let at-put-tags = put-tags-from-part at_part in
     let at-start = start-from-put-tags at-put-tags in
-    let p = at-start.pre in
+    let p = at-start.requires in
     let w = tags-back c.before in
     (p.0, (p.1.0, (p.1.1.0, (p.1.1.1, rw w.1 w.0))))
 

@@ -34,7 +34,7 @@ past₃ c =
 
 past₄ : (c : tie.Else-kind-eq0) → eqb (awaited (awaited-kind-from-else2 c.before.before.before).before.args.call) 0 ≡ false
 past₄ c =
-    let kind = (awaited-kind-from-else2 c.before.before.before).awaited-kind.ensures in
+    let kind = (awaited-kind-from-else2 c.before.before.before).awaited_kind-kind.ensures in
     ne_eqb _ 0 (λ z. c.if-kind-eq0.false (kind ∙ z))
 
 returns : tie.Need-returns-then-outside
@@ -63,7 +63,7 @@ returns-4 : tie.Need-returns-then-kind-eq0
 unfolding make_refusal_def shelf
 returns-4 c =
     let at-else2 = c.before.before.before in
-    let none = sym (awaited-kind-from-else2 at-else2).awaited-kind.ensures ∙ c.if-kind-eq0.true in
+    let none = sym (awaited-kind-from-else2 at-else2).awaited_kind-kind.ensures ∙ c.if-kind-eq0.true in
     rw (past₁ at-else2.before.before.before, past₂ c.before.before.before, past₃ c.before, eq-eqb _ 0 none)
 
 module _ (c : tie.Else-kind-eq0) where

@@ -24,16 +24,16 @@ loop-holds : tie.Need-loop-i-init invariant-loop decreases-loop
 loop-holds c = (omega arith, sym (count_none _))
 
 one-is : (c : tie.After-one_for-c invariant-loop decreases-loop)
-    → c.one_for-c.result ≡ bit (marked c.before.before.before.args.t1 (suc c.before.before.loop-i.i))
+    → c.one_for-c.result ≡ bit (marked c.before.before.before.args.marks (suc c.before.before.loop-i.i))
 unfolding marked
-one-is c = c.one_for-c.ensures ∙ as-bit (not (eqb (get_or c.before.before.before.args.t1 c.before.before.loop-i.i 0) 0))
+one-is c = c.one_for-c.ensures ∙ as-bit (not (eqb (get_or c.before.before.before.args.marks c.before.before.loop-i.i 0) 0))
   where
     as-bit : (b : Bool) → cond b 1 0 ≡ bit b
     as-bit true = refl
     as-bit false = refl
 
 one-le : (c : tie.After-one_for-c invariant-loop decreases-loop) → c.one_for-c.result ≤ 1
-one-le c = omega (arith, one-is c, bit_le (marked c.before.before.before.args.t1 (suc c.before.before.loop-i.i)))
+one-le c = omega (arith, one-is c, bit_le (marked c.before.before.before.args.marks (suc c.before.before.loop-i.i)))
 
 add-c : tie.Need-overflow_add-c invariant-loop decreases-loop
 add-c c =

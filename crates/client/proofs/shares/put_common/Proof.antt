@@ -11,7 +11,7 @@ use Rattle.client.proofs.shares.put_common.Tie as tie
 write-at-requires : tie.Need-write_at-requires
 write-at-requires c κs =
     let at-start = c.before.before.before.before in
-    let z : length at-start.args.t3 ≡ digest_size = search rules in omega (arith, z, at-start.requires)
+    let z : length at-start.args.digest ≡ digest_size = search rules in omega (arith, z, at-start.requires)
 
 -- Places far back, each named once: the place, and from where it is seen.
 abbrev start-from-write-at : tie.After-write_at → tie.Start
@@ -30,7 +30,7 @@ returns c =
     let a = at-start.args in
     let z : length a.t3 ≡ digest_size = search rules in
     c.before.before.write_at-2.ensures ∙ rw at-write-at.write_at.ensures
-    (put_put a.common.now a.at digest_size a.t3 a.tags.now z at-start.pre)
+    (put_put a.common.now a.at digest_size a.t3 a.tags.now z at-start.requires)
 
 pub put_common_spec : {M : Type 1} → statement M
 put_common_spec = tie.close (tie.spec (λ c. search rules) write-at-requires add-write-at write-at-requires-2 (λ c. search rules) returns)

@@ -34,7 +34,7 @@ room : (c : tie.In-loop-i invariant-loop decreases-loop)
     ≤ reply_slot)
 room c =
     let at-start = start-from-at-loop c.before in
-    let p = at-start.pre in (
+    let p = at-start.requires in (
       omega (arith, c.loop-i-test.true, c.before.before.servers-s.ensures, servers-few at-start.args.t p.0),
       omega (arith, c.before.before.before.fragment_size-f.ensures, p.1.1.1),
     )
@@ -57,7 +57,7 @@ loop-again c =
     )
 
 same_length : tie.Need-shape_of-kept invariant-loop decreases-loop
-same_length c = c.before.loop-i.invariant.1.1 ∙ sym (start-from-at-loop c.before).pre.1.1.0
+same_length c = c.before.loop-i.invariant.1.1 ∙ sym (start-from-at-loop c.before).requires.1.1.0
 
 returns : tie.Need-returns invariant-loop decreases-loop
 returns c =

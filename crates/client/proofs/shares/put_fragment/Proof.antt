@@ -31,12 +31,12 @@ made c =
     let at-content = content-from-part c in
     let at-start = start-from-content at-content in
     let a = at-start.args in
-    let p = at-start.pre in
+    let p = at-start.requires in
     let r = content_of a.call a.kept.now in
     let k = content_short a.call a.kept.now in
     let e : c.part-fragment.result.now ≡ fragment (shelf a.t).points (shelf a.t).threshold r (suc a.i) =
     c.part-fragment.ensures ∙ fragment-cut a.t a.i r p.0 p.1.0 p.1.1.0 k c.before.before.before.fragment-made.result
-    (rw at-content.content.ensures.0 at c.before.before.before.fragment-made.ensures) in
+    (rw at-content.content-content.ensures.0 at c.before.before.before.fragment-made.ensures) in
     (e, ap length e ∙ piece-length a.t a.i r p.0 p.1.0 p.1.1.0 k)
 
 few : (c : tie.Start) → suc c.args.i ≤ most_servers
@@ -51,9 +51,9 @@ put-start-requires c κs =
     let at-content = content-from-part at_part in
     let at-start = start-from-content at-content in
     let a = at-start.args in
-    let p = at-start.pre in
+    let p = at-start.requires in
     let k = offer-room a.t (length (content_of a.call a.kept.now)) p.0 p.1.0 (content_short a.call a.kept.now) in
-    (at-content.content.ensures.1, omega (arith, (made at_part).1, few at-start, p.1.1.1.0, k))
+    (at-content.content-content.ensures.1, omega (arith, (made at_part).1, few at-start, p.1.1.1.0, k))
 
 returns : tie.Need-returns
 returns c =
@@ -64,7 +64,7 @@ returns c =
     let a = at-start.args in
     let m = made at_part in (
       c.before.before.put_start.ensures ∙ ap (put a.kept.now (replies_place + reply_slot * a.i)) (start-made a.t
-          (content_of a.call a.kept.now) (suc a.i) at-content.content.ensures.0 m.0),
+          (content_of a.call a.kept.now) (suc a.i) at-content.content-content.ensures.0 m.0),
       at-slice-known3.before.before.write_at.ensures ∙ rw (at-slice-known3.before.before.before.before.before.digest-digest.ensures, m.0),
     )
 

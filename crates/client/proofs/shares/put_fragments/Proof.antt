@@ -41,7 +41,7 @@ stay : (c : tie.At-loop-i invariant-loop decreases-loop)
 stay c =
     let at-start = start-from-at-loop c in
     let a = at-start.args in
-    let p = at-start.pre in
+    let p = at-start.requires in
     let i = c.loop-i.i in
     let v = c.loop-i.invariant in
     let r = content_of a.call a.kept.now in
@@ -80,7 +80,7 @@ loop-again c =
       omega arith,
       (
         e.0 ∙ slots_more reply_slot replies_place (start_of a.t r) a.kept.now i v.1.0 (ap (λ (x : List ℕ). start_of a.t x (suc i)) s),
-        e.1 ∙ digest_more a.t r a.digests.now i v.1.1 s (omega (arith, n, at-start.pre.1.1.1)),
+        e.1 ∙ digest_more a.t r a.digests.now i v.1.1 s (omega (arith, n, at-start.requires.1.1.1)),
       ),
     )
 
@@ -91,4 +91,4 @@ returns c =
 
 pub put_fragments_spec : {M : Type 1} → statement M
 put_fragments_spec = tie.close (tie.spec invariant-loop decreases-loop (λ c κs. search rules) loop-holds put-fragment-requires (λ c. search rules) (λ c. search rules)
-    loop-again (λ c. (stay c.before).0 ∙ sym (start-from-at-loop c.before).pre.1.1.0) (λ c. (stay c.before).1) returns)
+    loop-again (λ c. (stay c.before).0 ∙ sym (start-from-at-loop c.before).requires.1.1.0) (λ c. (stay c.before).1) returns)

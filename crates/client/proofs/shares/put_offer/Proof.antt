@@ -42,7 +42,7 @@ few : (c : tie.After-servers) → (c.servers.result ≤ most_servers)
     × (length (start-from-content (content-from-put-parts (put-parts-from-servers c))).args.tags.now ≤ tag_size * most_servers)
 few c =
     let at-start = start-from-content (content-from-put-parts (put-parts-from-servers c)) in
-    let p = at-start.pre in
+    let p = at-start.requires in
     let l = servers-few at-start.args.t p.1.0 in
     (omega (arith, c.servers.ensures, l), omega (arith, p.1.1.1, l))
 
@@ -54,14 +54,14 @@ back c =
     let at-put-parts = put-parts-from-part c in
     let at-start = start-from-content (content-from-put-parts at-put-parts) in
     let a = at-start.args in
-    let p = at-start.pre in
+    let p = at-start.requires in
     let r = content_of a.call a.kept.now in
     let s = c.before.before.before.servers.ensures in
     let l = common-length a.t r p.0 p.1.0 (content_short a.call a.kept.now) a.digest a.tags.now (digest-size at-start)
     p.1.1.1 in
     run_back (replicate common_room 0) (digest_run a.t r (shelf a.t).servers ++ (a.digest ++ a.tags.now))
     (digest_size * c.before.before.before.servers.result + digest_size + length a.tags.now) c.part.ensures
-    at-put-parts.put-parts.ensures.1 (omega (arith, s, l, p.1.1.1))
+    at-put-parts.put_parts.ensures.1 (omega (arith, s, l, p.1.1.1))
     (omega (arith, l, servers-few a.t p.1.0, length-replicate {A = ℕ} common_room 0))
 
 put-ends-requires : tie.Need-put_ends-requires
@@ -69,12 +69,12 @@ put-ends-requires c κs =
     let at-content = content-from-put-parts (put-parts-from-part c) in
     let at-start = start-from-content at-content in
     let a = at-start.args in
-    let p = at-start.pre in
+    let p = at-start.requires in
     let r = content_of a.call a.kept.now in
     let l = common-length a.t r p.0 p.1.0 (content_short a.call a.kept.now) a.digest a.tags.now (digest-size at-start)
     p.1.1.1 in
-    let n = at-content.content.ensures.1 in
-    let k = offer-room a.t (length at-content.content.result.now) p.0 p.1.0 n in
+    let n = at-content.content-n.ensures.1 in
+    let k = offer-room a.t (length at-content.content-n.result.now) p.0 p.1.0 n in
     (p.1.0, (n, (search rules, omega (arith, k, ap length (back c), l))))
 
 returns : tie.Need-returns
@@ -84,10 +84,10 @@ returns c =
     let at-content = content-from-put-parts at-put-parts in
     let at-start = start-from-content at-content in
     let a = at-start.args in
-    let p = at-start.pre in
+    let p = at-start.requires in
     c.before.before.put_ends.ensures ∙ offered-run a.t (content_of a.call a.kept.now) p.0 p.1.0
     (content_short a.call a.kept.now) a.digest a.tags.now (digest-size at-start) p.1.1.1 a.kept.now p.1.1.0
-    at-put-parts.put-parts.ensures.0 at-content.content.ensures.0 (back at_part)
+    at-put-parts.put_parts.ensures.0 at-content.content-n.ensures.0 (back at_part)
 
 pub put_offer_spec : {M : Type 1} → statement M
 put_offer_spec = tie.close (tie.spec (λ c κs. search rules) (λ c. search rules) put-parts-requires (λ c κs. search rules)

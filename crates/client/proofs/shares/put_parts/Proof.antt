@@ -25,7 +25,7 @@ start-from-put-fragments c = c.before.before.before.before.before.before
 mul-put-common : tie.Need-overflow_mul-servers
 mul-put-common c =
     let at-start = start-from-put-fragments (put-fragments-from-servers c) in
-    omega (arith, c.servers.ensures, servers-few at-start.args.t at-start.pre.1.0)
+    omega (arith, c.servers.ensures, servers-few at-start.args.t at-start.requires.1.0)
 
 put-common-requires : tie.Need-put_common-requires
 put-common-requires c κs = omega (arith, c.servers.ensures, (start-from-put-fragments (put-fragments-from-servers c)).requires.1.1.1)
@@ -36,12 +36,12 @@ returns c =
     let at-put-fragments = put-fragments-from-servers at-servers in
     let at-start = start-from-put-fragments at-put-fragments in
     let a = at-start.args in
-    let f = at-put-fragments.put-fragments.ensures in
+    let f = at-put-fragments.put_fragments.ensures in
     let l = length-append a.digest a.tags.now in (
       f.0,
       c.before.before.put_common.ensures ∙ rw (at-servers.servers.ensures, f.1)
           (digests_then a.t (content_of a.call a.kept.now) a.common.now (a.digest ++ a.tags.now) (shelf a.t).servers
-          (omega (arith, digest-size at-start, l, at-start.pre.1.1.1))),
+          (omega (arith, digest-size at-start, l, at-start.requires.1.1.1))),
     )
 
 pub put_parts_spec : {M : Type 1} → statement M

@@ -45,8 +45,8 @@ returns-2 c =
     let at-shared-slice-known = shared-slice-known-from-part at_part in
     let z = at-shared-slice-known.before in
     let a = z.args in
-    z.pre.1 ∙ sym (raised a.writers.now a.body.now a.high
-    (λ k. (at-shared-slice-known.shared-slice-known.given k).fits) (omega (arith, z.pre.0))
+    z.requires.1 ∙ sym (raised a.writers.now a.body.now a.high
+    (λ k. (at-shared-slice-known.shared_slice_known-1.given k).fits) (omega (arith, z.requires.0))
     (up at_part.before.before) (sym (tags c.before) ∙ c.if-same_throughout.true))
 
 returns-3 : tie.Need-returns
@@ -55,8 +55,8 @@ returns-3 c =
     let at-shared-slice-known = shared-slice-known-from-part at_part in
     let z = at-shared-slice-known.before in
     let a = z.args in
-    sym (not-raised a.writers.now a.body.now a.high (λ k. (at-shared-slice-known.shared-slice-known.given k).fits)
-    (omega (arith, z.pre.0)) (up at_part.before.before) (sym (tags c.before) ∙ c.if-same_throughout.false))
+    sym (not-raised a.writers.now a.body.now a.high (λ k. (at-shared-slice-known.shared_slice_known-1.given k).fits)
+    (omega (arith, z.requires.0)) (up at_part.before.before) (sym (tags c.before) ∙ c.if-same_throughout.false))
 
 pub higher_spec : {M : Type 1} → statement M
 higher_spec = tie.close (tie.spec returns (λ c κs. search rules) (λ c κs. search rules) (λ c κs. search rules) (λ c. search rules)

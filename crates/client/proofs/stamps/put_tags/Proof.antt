@@ -38,7 +38,7 @@ room : (c : tie.At-loop-i invariant-loop decreases-loop)
 room c =
     let at-start = start-from-at-loop c in
     let a = at-start.args in
-    let p = at-start.pre in
+    let p = at-start.requires in
     let e = c.before.servers-s.ensures in
     let l : tag_size * c.before.servers-s.result ≤ length a.tags.now = omega (arith, e, p.1) in (
       omega (arith, e, servers-few a.t p.0),

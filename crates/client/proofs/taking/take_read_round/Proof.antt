@@ -22,12 +22,12 @@ take-collect-requires c κs =
     let at-shared-slice-known = shared-slice-known-from-struct-known at-match.before in
     let z = at-shared-slice-known.before.before in
     let a = z.args in
-    let p = z.pre in
+    let p = z.requires in
     let f = ready-faults a.party.t a.party.client a.call a.reply.now a.head p.0 in
     let r = ready-server a.party.t a.party.client a.call a.reply.now a.head p.0 in
     let l : length (drop head_size a.reply.now) ≤ candidate_slot = collect-length a.party.t a.party.client a.call a.reply.now
     a.head p.0
-    (λ k. (at-shared-slice-known.shared-slice-known.given k).fits) at-match.in-4.keys1 in
+    (λ k. (at-shared-slice-known.shared_slice_known-1.given k).fits) at-match.in-4.keys1 in
     (f.1, (r.0, (r.1, (p.1.1.0, rw c.rest.ensures l))))
 
 returns : tie.Need-returns-in-4
@@ -36,10 +36,10 @@ returns c =
     let at-shared-slice-known = shared-slice-known-from-struct-known at-match.before in
     let z = at-shared-slice-known.before.before in
     let a = z.args in
-    let p = z.pre in
+    let p = z.requires in
     λ writers keys. takes-collect a.party.t a.party.client writers keys a.call a.kept.now a.reply.now a.out.now a.head
     p.0 p.1.1.1
-    at-match.in-4.keys1 (λ k. (at-shared-slice-known.shared-slice-known.given k).fits) _
+    at-match.in-4.keys1 (λ k. (at-shared-slice-known.shared_slice_known-1.given k).fits) _
     c.before.before.before.rest.ensures c.before.before.take_collect.result c.before.before.take_collect.ensures.0 _
     c.before.before.take_collect.ensures.1
 
@@ -50,7 +50,7 @@ take-repair-requires : tie.Need-take_repair-requires
 take-repair-requires c κs =
     let z = (shared-slice-known-from-struct-known c.before.before.before).before.before in
     let a = z.args in
-    let p = z.pre in
+    let p = z.requires in
     let f = ready-faults a.party.t a.party.client a.call a.reply.now a.head p.0 in
     let r = ready-server a.party.t a.party.client a.call a.reply.now a.head p.0 in
     (f.1, (r.0, (r.1, p.1.1.1)))
@@ -60,7 +60,7 @@ returns-3 c =
     let at-match = c.before.before.before.before.before in
     let z = (shared-slice-known-from-struct-known at-match.before).before.before in
     let a = z.args in
-    let p = z.pre in
+    let p = z.requires in
     let q = ready-round a.party.t a.party.client a.call a.reply.now a.head p.0 in
     let e : a.call.tally.round ≡ 6 = omega (arith, p.1.0, at-match.match.rest.0.1, at-match.match.rest.1) in
     λ writers keys. takes-repair a.party.t a.party.client writers keys a.call a.kept.now a.reply.now a.out.now a.head

@@ -41,7 +41,7 @@ returns-2 c =
     let at-passed = c.before.before.before.before in
     let z = start-from-passed at-passed in
     let a = z.args in
-    let p = z.pre in
+    let p = z.requires in
     takes-refused a.party.t a.party.client a.writers.now a.keys.now a.call a.kept.now a.reply.now a.out.now
     c.refused-then-n-ne0.result _
     c.refused-then-n-ne0.ensures

@@ -25,7 +25,7 @@ returns-2 : tie.Need-returns-then-out-lt-CONTENT_ROOM
 returns-2 c =
     let z = start-from-tally c.before.before.before in
     let a = z.args in
-    let p = z.pre in
+    let p = z.requires in
     takes-refused a.party.t a.party.client a.writers.now a.keys.now a.call a.kept.now a.reply.now a.out.now
     c.refused.result 15
     c.refused.ensures
@@ -37,7 +37,7 @@ take-write-round-requires c κs =
     let at-if1 = c.before.before.before in
     let z = start-from-tally at-if1.before in
     let a = z.args in
-    let p = z.pre in
+    let p = z.requires in
     let q = ready-round a.party.t a.party.client a.call a.reply.now a.passed.head p.0 in
     (p.0, (omega (arith, at-if1.if-round-eq-CLOCK.false), (c.before.if-round-lt-COLLECT.true, p.1.1)))
 

@@ -37,7 +37,7 @@ take-store-requires : tie.Need-take_store-requires
 take-store-requires c κs =
     let z = start-from-known c.before.before in
     let a = z.args in
-    let p = z.pre in (
+    let p = z.requires in (
       (ready-faults a.party.t a.party.client a.call a.reply.now a.passed.head p.0).1,
       ready-server a.party.t a.party.client a.call a.reply.now a.passed.head p.0,
     )
@@ -46,7 +46,7 @@ returns : tie.Need-returns-then-round-eq-STORE
 returns c =
     let z = start-from-known c.before.before.before in
     let a = z.args in
-    let p = z.pre in
+    let p = z.requires in
     let e = c.before.before.if-round-eq-STORE.true in
     λ writers keys output room. takes-store a.party.t a.party.client writers keys a.call a.kept.now a.reply.now output
     a.passed.head p.0 room e _ (told z e) c.take_store.result c.take_store.ensures
@@ -55,7 +55,7 @@ take-complete-requires : tie.Need-take_complete-requires
 take-complete-requires c κs =
     let z = start-from-known c.before in
     let a = z.args in
-    let p = z.pre in (
+    let p = z.requires in (
       (ready-faults a.party.t a.party.client a.call a.reply.now a.passed.head p.0).1,
       ready-server a.party.t a.party.client a.call a.reply.now a.passed.head p.0,
     )
@@ -64,7 +64,7 @@ returns-2 : tie.Need-returns
 returns-2 c =
     let z = start-from-known c.before.before in
     let a = z.args in
-    let p = z.pre in
+    let p = z.requires in
     let e : a.call.tally.round ≡ 3 = omega (arith, p.1.0, p.1.1.0, c.before.if-round-eq-STORE.false) in
     λ writers keys output room. takes-complete a.party.t a.party.client writers keys a.call a.kept.now a.reply.now output
     a.passed.head p.0 room e c.take_complete.result c.take_complete.ensures

@@ -16,11 +16,11 @@ invariant-loop out₀ at column i₀ out i = (i ≤ 8) × (out ≡ paste out₀ 
 abbrev decreases-loop : tie.decreases-loop-i
 decreases-loop out₀ at column i₀ out i = 8 - i
 
-eight : (c : tie.Start invariant-loop decreases-loop) → length c.args.t3 ≡ 8
+eight : (c : tie.Start invariant-loop decreases-loop) → length c.args.column ≡ 8
 eight c = search rules
 
 loop-holds : tie.Need-loop-i-init invariant-loop decreases-loop
-loop-holds c = (omega arith, paste-zero c.args.out.now c.args.at c.args.t3)
+loop-holds c = (omega arith, paste-zero c.args.out.now c.args.at c.args.column)
 
 -- the output keeps its length
 module _ (c : tie.At-loop-i invariant-loop decreases-loop) where

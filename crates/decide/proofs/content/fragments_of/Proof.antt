@@ -35,17 +35,17 @@ abbrev start-from-at-loop : tie.At-loop-p invariant-loop decreases-loop → tie.
 start-from-at-loop c = c.before.before.before.before
 
 array-read-at : tie.Need-bounds-servers-p invariant-loop decreases-loop
-array-read-at c = omega (arith, c.before.before.threshold-k.ensures.1, (start-from-at-loop c.before).pre.0.high)
+array-read-at c = omega (arith, c.before.before.threshold-k.ensures.1, (start-from-at-loop c.before).requires.0.high)
 
 -- what every number of a turn rests on, at the top of the loop's body
 fine : (c : tie.In-loop-p invariant-loop decreases-loop)
-    → Turn (start-from-at-loop c.before).args.kept.now (get_or (start-from-at-loop c.before).args.t4 c.before.loop-p.p 0)
+    → Turn (start-from-at-loop c.before).args.kept.now (get_or (start-from-at-loop c.before).args.servers c.before.loop-p.p 0)
     c.before.before.before.fragment_size-f.result c.before.loop-p.p
 fine c =
     let at-loop = c.before in
     let at-start = start-from-at-loop at-loop in
     let a = at-start.args in
-    let p = at-start.pre in
+    let p = at-start.requires in
     turn a.t a.kept.now a.t4 a.n p.0 p.1 p.2 c.before.before.before.fragment_size-f.result c.before.loop-p.p
     c.before.before.before.fragment_size-f.ensures (omega (arith, c.before.before.threshold-k.ensures.0))
 
@@ -54,7 +54,7 @@ copy-requires c κs =
     let at-loop = c.before.before.before in
     let at-start = start-from-at-loop at-loop in
     let a = at-start.args in
-    let p = at-start.pre in
+    let p = at-start.requires in
     let f = at-loop.before.before.fragment_size-f in
     let l : c.before.before.before.loop-p.p < (shelf a.t).threshold = omega (arith, at-loop.before.threshold-k.ensures.0) in
     let at : ℕ = replies_place + reply_slot * (get_or a.t4 c.before.before.before.loop-p.p 0 - 1) + (stamp_size + 3) in
@@ -70,7 +70,7 @@ loop-again c =
     let at-loop = c.before.before.before.before.before in
     let at-start = start-from-at-loop at-loop in
     let a = at-start.args in
-    let p = at-start.pre in
+    let p = at-start.requires in
     let v = at-loop.loop-p.invariant in
     let l : at-loop.loop-p.p < (shelf a.t).threshold = omega (arith, at-loop.before.threshold-k.ensures.0) in
     let at : ℕ = replies_place + reply_slot * (get_or a.t4 at-loop.loop-p.p 0 - 1) + (stamp_size + 3) in
@@ -86,7 +86,7 @@ returns c =
     let at-start = start-from-at-loop at-loop in
     let a = at-start.args in
     let e = c.before.before.before.fragment_size-f.ensures in
-    let p = at-start.pre in
+    let p = at-start.requires in
     record {
       long = omega (arith, fragments-room a.t a.n p.0.high p.1, c.before.loop-p.invariant.1);
       each = λ q l. subst

@@ -46,7 +46,7 @@ mul-end : tie.Need-overflow_mul-end
 mul-end c =
     let at-start = start-from-fragment-size c in
     let a = at-start.args in
-    let p = at-start.pre in
+    let p = at-start.requires in
     omega (
       arith,
       room a.t c.before.before.type_size.result c.before.threshold-k.result c.fragment_size.result p.0.high
@@ -58,7 +58,7 @@ fragments-of-requires : tie.Need-fragments_of-fragments-requires
 fragments-of-requires c κs =
     let at-start = start-from-fragment-size c in
     let a = at-start.args in
-    let p = at-start.pre in
+    let p = at-start.requires in
     (p.0, omega (arith, p.2.top, size a.kept.now a.b c.before.before.type_size.result c.before.before.type_size.ensures), p.3)
 
 abbrev start-from-fragments-of : tie.After-fragments_of-fragments → tie.Start
@@ -71,7 +71,7 @@ part-restore-end c =
     omega (
       arith,
       c.before.before.before.threshold-k.ensures.1,
-      at-start.pre.0.high,
+      at-start.requires.0.high,
       at-start.good.1.1.1.0.1.0.1,
     )
 
@@ -109,19 +109,19 @@ returns c =
     let at-fragments-of = fragments-of-from-restore at_restore in
     let at-start = start-from-fragments-of at-fragments-of in
     let a = at-start.args in
-    let p = at-start.pre in
+    let p = at-start.requires in
     let n = size a.kept.now a.b at-fragments-of.before.before.before.type_size.result
     at-fragments-of.before.before.before.type_size.ensures in
-    let k = at-fragments-of.before.before.threshold.ensures.0 in
-    let f = at-fragments-of.before.fragment-size.ensures in
+    let k = at-fragments-of.before.before.threshold-k.ensures.0 in
+    let f = at-fragments-of.before.fragment_size.ensures in
     rebuilt a.t a.kept.now a.t4 at-fragments-of.before.before.before.type_size.result
-    p.0 (omega (arith, p.2.top, n)) p.3 a.b at-fragments-of.fragments-of.result
+    p.0 (omega (arith, p.2.top, n)) p.3 a.b at-fragments-of.fragments_of-fragments.result
     a.out.now at_restore.restore-r.new.1.1.1.1.0
-    at_restore.restore-r.result n at-start.good.1.1.1.0.1.0.1 at-fragments-of.fragments-of.ensures p.4 (at_restore.restore-r.ensures
+    at_restore.restore-r.result n at-start.good.1.1.1.0.1.0.1 at-fragments-of.fragments_of-fragments.ensures p.4 (at_restore.restore-r.ensures
     ∙ lent a.t at-fragments-of.before.before.before.type_size.result
-    at-fragments-of.before.before.threshold.result (shelf a.t).threshold at-fragments-of.before.fragment-size.result
+    at-fragments-of.before.before.threshold-k.result (shelf a.t).threshold at-fragments-of.before.fragment_size.result
     (fragment_size_def (shelf a.t).threshold at-fragments-of.before.before.before.type_size.result)
-    a.t4 at-fragments-of.fragments-of.result a.out.now k f)
+    a.t4 at-fragments-of.fragments_of-fragments.result a.out.now k f)
 
 pub rebuild_spec : {M : Type 1} → statement M
 rebuild_spec = tie.close (tie.spec (λ c. omega (arith, c.before.before.requires.0.size)) (λ c. omega (arith, c.before.before.requires.0.size))

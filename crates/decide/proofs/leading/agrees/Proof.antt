@@ -51,7 +51,7 @@ returns-3 c =
     let a = at-start.args in
     let q = a.sought in
     let who = q.replied in
-    let p = at-start.pre in
+    let p = at-start.requires in
     let l : a.j < most_servers = omega (arith, p.3, few p.0) in
     let k : a.b < most_servers = omega (arith, p.2, few p.0) in
     rw (agrees_nameless who.t who.marks a.kept.now q.slot a.d.now p.4 a.b k p.5 a.j l
@@ -66,7 +66,7 @@ alike-at-requires c κs =
     let a = at-start.args in
     let q = a.sought in
     let who = q.replied in
-    let p = at-start.pre in
+    let p = at-start.requires in
     let l : a.j < most_servers = omega (arith, p.3, few p.0) in
     let k : a.b < most_servers = omega (arith, p.2, few p.0) in (
       p.0,
@@ -84,7 +84,7 @@ returns-4 c =
     let a = at-start.args in
     let q = a.sought in
     let who = q.replied in
-    let p = at-start.pre in
+    let p = at-start.requires in
     let l : a.j < most_servers = omega (arith, p.3, few p.0) in
     let k : a.b < most_servers = omega (arith, p.2, few p.0) in
     rw (agrees_unlike who.t who.marks a.kept.now q.slot a.d.now p.4 a.b k p.5 a.j l
@@ -99,7 +99,7 @@ intact-at-requires c κs =
     let a = at-start.args in
     let q = a.sought in
     let who = q.replied in
-    let p = at-start.pre in (
+    let p = at-start.requires in (
       p.0,
       p.3,
       names_full (shelf who.t) (reply_slot_of a.kept.now a.j) (candidates_in (shelf who.t) a.kept.now (suc q.slot)) a.d.now
@@ -121,11 +121,11 @@ last c =
     let a = at-start.args in
     let q = a.sought in
     let who = q.replied in
-    let p = at-start.pre in
+    let p = at-start.requires in
     let l : a.j < most_servers = omega (arith, p.3, few p.0) in
     let k : a.b < most_servers = omega (arith, p.2, few p.0) in
     agrees_last who.t who.marks a.kept.now q.slot a.d.now p.4 a.b k p.5 a.j l
-    (is-marked who.marks a.j at-names-at.before.if2.left) (sym at-names-at.names_at.ensures ∙ not-false at-names-at.names_at.result
+    (is-marked who.marks a.j at-names-at.before.if-replied-j-eq0.left) (sym at-names-at.names_at.ensures ∙ not-false at-names-at.names_at.result
     c.before.before.before.if-not-names_at.false)
     (sym c.before.before.Alike-at.ensures ∙ not-false c.before.before.Alike-at.result c.before.if-not-alike_at.false)
     ∙ sym c.intact_at.ensures

@@ -50,8 +50,8 @@ add-i c =
     let at-loop = at-loop-from-else1 c in
     omega (
       arith,
-      at-loop.before.servers.ensures.1,
-      at-loop.before.before.before.pre.high,
+      at-loop.before.servers-s.ensures.1,
+      at-loop.before.before.before.requires.high,
     )
 
 loop-again : tie.Need-loop-i-preserved invariant-loop decreases-loop
@@ -59,8 +59,8 @@ loop-again c =
     let at-loop = at-loop-from-else1 c in
     let a = at-loop.before.before.before.args in (
       omega arith,
-      chosen-passed a.replied.t a.replied.marks a.kept.now a.key at-loop.loop.i
-          c.before.before.tried-g.result at-loop.loop.inv.1 c.before.before.tried-g.ensures c.if-g-ne0.false,
+      chosen-passed a.replied.t a.replied.marks a.kept.now a.key at-loop.loop-i.i
+          c.before.before.tried-g.result at-loop.loop-i.invariant.1 c.before.before.tried-g.ensures c.if-g-ne0.false,
     )
 
 returns-2 : tie.Need-returns invariant-loop decreases-loop

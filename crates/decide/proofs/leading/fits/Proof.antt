@@ -41,7 +41,7 @@ returns-2 c =
     let a = at-start.args in
     let q = a.sought in
     let who = q.replied in
-    let p = at-start.pre in
+    let p = at-start.requires in
     let l : a.j < most_servers = omega (arith, p.2, few p.0) in
     sym (fits-marked who.t who.marks a.kept.now q.slot a.d.now p.3 a.j l (is-marked who.marks a.j
     c.before.before.if-replied-j-eq0.false)
@@ -54,7 +54,7 @@ intact-at-requires c κs =
     let a = at-start.args in
     let q = a.sought in
     let who = q.replied in
-    let p = at-start.pre in (
+    let p = at-start.requires in (
       p.0,
       p.2,
       names_full (shelf who.t) (reply_slot_of a.kept.now a.j) (candidates_in (shelf who.t) a.kept.now (suc q.slot)) a.d.now
@@ -67,7 +67,7 @@ returns-3 c =
     let a = at-start.args in
     let q = a.sought in
     let who = q.replied in
-    let p = at-start.pre in
+    let p = at-start.requires in
     let l : a.j < most_servers = omega (arith, p.2, few p.0) in
     c.intact_at.ensures
     ∙ sym (fits-marked who.t who.marks a.kept.now q.slot a.d.now p.3 a.j l

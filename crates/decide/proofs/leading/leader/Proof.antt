@@ -42,7 +42,7 @@ group-of-requires c κs =
     let a = at-start.args in
     let q = a.sought in
     let who = q.replied in
-    let p = at-start.pre in (
+    let p = at-start.requires in (
       p.0,
       p.1,
       omega (arith, c.before.before.before.servers-s.ensures.0),
@@ -71,8 +71,8 @@ add-b c =
     let at-loop = at-loop-from-else1 c in
     omega (
       arith,
-      at-loop.before.servers.ensures.1,
-      (start-from-at-loop at-loop).pre.0.high,
+      at-loop.before.servers-s.ensures.1,
+      (start-from-at-loop at-loop).requires.0.high,
     )
 
 loop-again : tie.Need-loop-b-preserved invariant-loop decreases-loop
@@ -83,7 +83,7 @@ loop-again c =
     let who = q.replied in
     let g = c.before.before.Group-of.ensures in (
       omega arith,
-      leader_more who.t who.marks a.kept.now q.slot at-loop.loop.b at-loop.loop.inv.1 ∙ sym g.server ∙ c.if-g-ne0.false,
+      leader_more who.t who.marks a.kept.now q.slot at-loop.loop-b.b at-loop.loop-b.invariant.1 ∙ sym g.server ∙ c.if-g-ne0.false,
     )
 
 returns-2 : tie.Need-returns invariant-loop decreases-loop

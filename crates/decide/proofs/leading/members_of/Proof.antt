@@ -85,7 +85,7 @@ array-write-out c = let v = c.before.before.loop-j.invariant in omega (
   v.1,
   v.2,
   c.before.before.before.threshold-k.ensures.1,
-  (start-from-threshold c.before.before.before).pre.0.high,
+  (start-from-threshold c.before.before.before).requires.0.high,
 )
 
 agrees-requires : tie.Need-agrees-n-requires invariant-loop decreases-loop
@@ -116,8 +116,8 @@ add-n c =
       c.agrees-n.ensures,
       bit_le
           (agrees_at_def who.t who.marks a.kept.now q.slot a.b (suc c.before.before.before.loop-j.j)),
-      at-threshold.threshold.ensures.1,
-      at-start.pre.0.high,
+      at-threshold.threshold-k.ensures.1,
+      at-start.requires.0.high,
     )
 
 add-j : tie.Need-overflow_add-j invariant-loop decreases-loop
@@ -125,8 +125,8 @@ add-j c =
     let at-threshold = threshold-from-agrees c in
     omega (
       arith,
-      at-threshold.before.servers.ensures.1,
-      (start-from-threshold at-threshold).pre.0.high,
+      at-threshold.before.servers-s.ensures.1,
+      (start-from-threshold at-threshold).requires.0.high,
     )
 
 loop-again : tie.Need-loop-j-preserved invariant-loop decreases-loop
@@ -138,9 +138,9 @@ loop-again c =
     let who = q.replied in
     let v = c.before.before.before.loop-j.invariant in
     let p = agrees_at_def who.t who.marks a.kept.now q.slot a.b in
-    let k = at-threshold.threshold.ensures.1 in
+    let k = at-threshold.threshold-k.ensures.1 in
     let w = servers_step p c.before.before.before.loop-j.j c.before.before.before.loop-j.n c.before.before.before.loop-j.out v.3
-    v.4 (omega (arith, v.1, v.2, k, at-start.pre.0.high)) in (
+    v.4 (omega (arith, v.1, v.2, k, at-start.requires.0.high)) in (
       omega arith,
       omega (arith, v.1, c.before.if-n-k.false, c.agrees-n.ensures, bit_le (p (suc c.before.before.before.loop-j.j))),
       length-set c.before.before.before.loop-j.out c.before.before.before.loop-j.n (c.before.before.before.loop-j.j + 1) ∙ v.2,

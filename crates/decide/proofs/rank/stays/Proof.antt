@@ -41,11 +41,11 @@ is-lower-requires : tie.Need-is_lower-n-requires invariant-loop decreases-loop
 is-lower-requires c κs =
     let at-in-loop = c.before in
     let at-start = start-from-in-loop at-in-loop in (
-      at-start.pre.size,
+      at-start.requires.size,
       omega (
         arith,
         at-in-loop.before.before.servers-s.ensures.1,
-        at-start.pre.high,
+        at-start.requires.high,
       ),
     )
 
@@ -67,7 +67,7 @@ add-n c =
       c.before.before.before.loop-j.invariant.1,
       count-le c.before.before.before.loop-j.j p,
       c.is_lower-n.ensures,
-      at-start.pre.high,
+      at-start.requires.high,
       c.before.before.before.before.servers-s.ensures.1,
       bit_le (not (eqb (get_or a.t2.marks c.before.before.before.loop-j.j 0) 0) && ltb (rank_at a.kept.now
           (replies_place + reply_slot * c.before.before.before.loop-j.j)) a.key),

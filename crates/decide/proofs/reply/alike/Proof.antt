@@ -21,7 +21,7 @@ returns c =
     let a = at-size-of.before.before.before.args in
     let p = at-size-of.before.before.before.requires in
     sym (alike-not (shelf a.t) a.a.now a.b.now p.4 p.5 (λ e. c.if-size_of-n.true
-    (c.before.size_of.ensures ∙ e ∙ sym c.before.before.type_size.ensures)))
+    (c.before.size_of-n.ensures ∙ e ∙ sym c.before.before.type_size.ensures)))
 
 digests-at-requires : tie.Need-digests_at-at-requires
 digests-at-requires c κs = let p = c.before.before.before.before.before.requires in (
@@ -59,7 +59,7 @@ returns-2 c =
     let at-tags-place = c.before.before.before.before in
     let at-size-of = size-of-from-tags-place at-tags-place in
     let a = at-size-of.before.before.before.args in
-    let p = at-size-of.before.before.before.pre in
+    let p = at-size-of.before.before.before.requires in
     let s = shelf a.t in
     let r = at-tags-place.before.digests_at-at.ensures in
     let z = ap (fragment_size_def (shelf a.t).threshold) at-size-of.type_size.ensures in
@@ -73,7 +73,7 @@ returns-2 c =
     ∙ cuts a.a.now a.b.now at (digests_in_def (shelf a.t) a.a.now) (m + tag_size * o - at)
     (digests_size_def (shelf a.t) + digest_size + tags_size_def (shelf a.t)) e l
     ∙ sym (alike_in (shelf a.t) a.a.now a.b.now p.4 p.5
-    (sym at-tags-place.before.before.before.size_of.ensures ∙ at-tags-place.before.before.if-size_of-n.false ∙ at-size-of.type_size.ensures)
+    (sym at-tags-place.before.before.before.size_of-n.ensures ∙ at-tags-place.before.before.if-size_of-n.false ∙ at-size-of.type_size.ensures)
     (omega (arith, r.room, e, p.2)) (omega (arith, r.room, e, p.3)))
   where
     cuts : (a b : List ℕ) (x y n m : ℕ) → x ≡ y → n ≡ m → same_list (take n (drop x a)) (take n (drop x b)) ≡ same_list (bytes_at a y m) (bytes_at b y m)

@@ -41,11 +41,11 @@ returns-3 c =
     let at-size-of = c.before.before.before.before.before in
     let at-shared-slice-known2 = shared-slice-known2-from-size-of at-size-of in
     let a = at-shared-slice-known2.before.before.args in
-    let p = at-shared-slice-known2.before.before.pre in
+    let p = at-shared-slice-known2.before.before.requires in
     sym (names-other (shelf a.t) a.reply.now a.candidate.now a.d.now
     (ne_eqb (get_or a.reply.now stamp_size 0) 0 at-size-of.before.if-reply-eq0.false) (sym (same_heads a.reply.now a.candidate.now
-    (λ k. (at-shared-slice-known2.before.shared-slice-known.given k).fits)
-    (λ k. (at-shared-slice-known2.shared-slice-known2.given k).fits) (omega (arith, p.2)) (omega (arith, p.3)))
+    (λ k. (at-shared-slice-known2.before.shared_slice_known-1.given k).fits)
+    (λ k. (at-shared-slice-known2.shared_slice_known-2-1.given k).fits) (omega (arith, p.2)) (omega (arith, p.3)))
     ∙ sym c.before.same.ensures ∙ not-true c.before.same.result c.if-not-same.true))
 
 abbrev size-of-from-else3 : tie.Else-not-same → tie.After-size_of-n
@@ -75,15 +75,15 @@ returns-4 c =
     let at-size-of = size-of-from-else3 at-else3 in
     let at-shared-slice-known2 = shared-slice-known2-from-size-of at-size-of in
     let a = at-shared-slice-known2.before.before.args in
-    let p = at-shared-slice-known2.before.before.pre in
+    let p = at-shared-slice-known2.before.before.requires in
     let f : Full a.reply.now =
     record {
-      flag = ne_eqb (get_or a.reply.now stamp_size 0) 0 at-size-of.before.if1.left;
+      flag = ne_eqb (get_or a.reply.now stamp_size 0) 0 at-size-of.before.if-reply-eq0.left;
       top = omega (arith, at-size-of.type_size.ensures);
     } in
     let q : same_stamp (stamp_at_def a.reply.now) (stamp_at_def a.candidate.now) ≡ true =
-    sym (same_heads a.reply.now a.candidate.now (λ k. (at-shared-slice-known2.before.shared-slice-known.given k).fits)
-    (λ k. (at-shared-slice-known2.shared-slice-known2.given k).fits) (omega (arith, p.2)) (omega (arith, p.3)))
+    sym (same_heads a.reply.now a.candidate.now (λ k. (at-shared-slice-known2.before.shared_slice_known-1.given k).fits)
+    (λ k. (at-shared-slice-known2.shared_slice_known-2-1.given k).fits) (omega (arith, p.2)) (omega (arith, p.3)))
     ∙ sym at-else3.before.same.ensures ∙ not-false at-else3.before.same.result at-else3.if-not-same.false in
     let at : ℕ = c.before.before.before.digests_at.result + digest_size * c.before.before.servers.result in
     let e : at ≡ digests_in_def (shelf a.t) a.reply.now + digests_size_def (shelf a.t) =

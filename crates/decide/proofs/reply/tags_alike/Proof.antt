@@ -67,7 +67,7 @@ returns-2 c =
     let at-servers = c.before.before.before.before in
     let at-start = start-from-servers at-servers in
     let a = at-start.args in
-    let p = at-start.pre in
+    let p = at-start.requires in
     let z = size a.t a.kept.now a.j at-servers.before.before.type_size.result
     at-servers.before.before.type_size.ensures in
     let at : ℕ = replies_place + reply_slot * a.j + c.before.before.before.tags_place.result in

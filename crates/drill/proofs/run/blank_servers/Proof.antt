@@ -34,9 +34,9 @@ at-loop-from-slice-known2 c = c.before.before.before.before.before
 add-b : tie.Need-overflow_add-b invariant-loop decreases-loop
 add-b c =
     let at-loop = at-loop-from-slice-known2 c in
-    let e = at-loop.before.servers.ensures in let h = few-servers at-loop.before.before.before.args.t at-loop.loop.b
-    at-loop.before.before.before.pre.0.1 (
-      at-loop.loop.inv.low,
+    let e = at-loop.before.servers-n.ensures in let h = few-servers at-loop.before.before.before.args.t at-loop.loop-b.b
+    at-loop.before.before.before.requires.0.1 (
+      at-loop.loop-b.invariant.low,
       omega
           arith,
     ) in omega arith
@@ -44,10 +44,10 @@ add-b c =
 loop-again : tie.Need-loop-b-preserved invariant-loop decreases-loop
 loop-again c =
     let at-loop = at-loop-from-slice-known2 c in
-    let e = at-loop.before.servers.ensures in
-    ready_more at-loop.before.before.before.args.t at-loop.loop.b
-    at-loop.loop.work _ at-loop.before.before.before.pre.0
-    (omega arith) at-loop.loop.inv c.before.before.blank.ensures
+    let e = at-loop.before.servers-n.ensures in
+    ready_more at-loop.before.before.before.args.t at-loop.loop-b.b
+    at-loop.loop-b.work _ at-loop.before.before.before.requires.0
+    (omega arith) at-loop.loop-b.invariant c.before.before.blank.ensures
 
 same_length : tie.Need-shape_of-work invariant-loop decreases-loop
 same_length c = c.before.loop-b.invariant.size ∙ sym c.before.before.before.before.requires.1.0

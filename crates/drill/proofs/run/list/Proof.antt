@@ -97,7 +97,7 @@ rows-from-requires c κs =
     let at-else2 = at-blank-servers.before.before in
     let at-else1 = else1-from-l (l-from-else2 at-else2) in
     let n = (next-later (sheet at-else1) 0 (stands at-else1)).1 in
-    let r = rows-room (sheet at-else1) (given at-else1) (start-from-else1 at-else1).pre.1 (stands at-else1) in
+    let r = rows-room (sheet at-else1) (given at-else1) (start-from-else1 at-else1).requires.1 (stands at-else1) in
     ((right-t at-else2, at-blank-servers.blank_servers.ensures), (rw c.next_line.ensures n, rw c.next_line.ensures r))
 
 returns-4 : tie.Need-returns

@@ -119,7 +119,7 @@ returns c =
     let at-line = line-from-enum-told at-enum-told in
     let p = at-line.before in
     going_last (t p) (sheet p) (given p) (start p) (out p) (work p) (place p) (n p) (begun p) (done p) (going p) (stands at-line)
-    (line-told at-enum-told.before.before.step_line.ensures at-enum-told.enum_told.given.1)
+    (line-told at-enum-told.before.before.step_line.ensures at-enum-told.enum_told-1.given.1)
     c.before.before.put_last.ensures
 
 one-line-requires : tie.Need-one_line-begun-requires invariant-loop decreases-loop
@@ -129,7 +129,7 @@ one-line-requires c κs =
     let p = at-line.before in
     let h = line-number (n p) (line at-line) _ (step_is at-l) in
     let few = (going p).few in (
-      (((start-from-loop p).pre.0.0, (going p).stands.size), omega arith),
+      (((start-from-loop p).requires.0.0, (going p).stands.size), omega arith),
       (line_form (n p) (line at-line) _ (step_is at-l), room at-line),
     )
 
@@ -163,7 +163,7 @@ loop-again c =
     let p = at-line.before in
     rw c.next_line-at.ensures
     (going_more (t p) (sheet p) (given p) (start p) (out p) (work p) (place p) (n p) (begun p) (done p) (going p) (stands at-line)
-    (step_is at-l) at-one-line.one_line.ensures)
+    (step_is at-l) at-one-line.one_line-begun.ensures)
 
 same-length-3 : tie.Need-shape_of-out invariant-loop decreases-loop
 same-length-3 c = size_is c.before

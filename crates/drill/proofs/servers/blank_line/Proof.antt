@@ -32,8 +32,8 @@ blank-latest-requires c κs =
     let at-else1 = c.before in
     let at-start = start-from-else1 at-else1 in
     let a = at-start.args in (
-      few-servers a.t a.server at-start.pre.0.1 (server-in c.before),
-      at-start.pre.1,
+      few-servers a.t a.server at-start.requires.0.1 (server-in c.before),
+      at-start.requires.1,
     )
 
 returns-2 : tie.Need-returns
@@ -41,7 +41,7 @@ returns-2 c =
     let at-else1 = c.before.before.before.before.before in
     let at-start = start-from-else1 at-else1 in
     let a = at-start.args in
-    blank_moves a.t a.work.now a.server at-start.pre.0.1
+    blank_moves a.t a.work.now a.server at-start.requires.0.1
     (server-in at-else1) c.before.before.before.blank_latest.ensures c.begun.ensures
 
 pub blank_line_spec : {M : Type 1} → statement M

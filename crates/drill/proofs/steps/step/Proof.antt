@@ -13,7 +13,7 @@ cast-write-2 : tie.Need-overflow_cast-l-in-1
 cast-write-2 c =
     let at-match = c.before.before.before in
     let at-start = start-from-struct-known2 at-match.before in
-    let h = write-fill at-start.args.l at-match.in-1.keys1 at-start.pre.1 in omega arith
+    let h = write-fill at-start.args.l at-match.in-1.keys1 at-start.requires.1 in omega arith
 
 returns : tie.Need-returns-in-1
 returns c =

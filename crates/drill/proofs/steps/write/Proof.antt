@@ -56,9 +56,9 @@ returns-3 c =
     let at-nonce-for = nonce-for-from-begin-write at-begin-write in
     let at-start = start-from-nonce-for at-nonce-for in
     let a = at-start.args in
-    write_moves a.t a.begun a.client a.size a.fill at-start.pre.0.0.1 a.work.now (client-in at-nonce-for.before.before)
+    write_moves a.t a.begun a.client a.size a.fill at-start.requires.0.0.1 a.work.now (client-in at-nonce-for.before.before)
     (at-begin-write.before.before.before.part-bytes.ensures ∙ part_copies a.size top_length a.fill (omega arith))
-    (at-nonce-for.nonce-for.ensures ∙ rw add-one) at-begin-write.begin_write-n.ensures c.begun.ensures (a.begun + 1)
+    (at-nonce-for.nonce_for-nonce.ensures ∙ rw add-one) at-begin-write.begin_write-n.ensures c.begun.ensures (a.begun + 1)
     (counts-begun a.begun at-begin-write.begin_write-n.result c.before.if-n-eq0.true)
 
 returns-4 : tie.Need-returns
@@ -67,9 +67,9 @@ returns-4 c =
     let at-nonce-for = nonce-for-from-begin-write at-begin-write in
     let at-start = start-from-nonce-for at-nonce-for in
     let a = at-start.args in
-    write_moves a.t a.begun a.client a.size a.fill at-start.pre.0.0.1 a.work.now (client-in at-nonce-for.before.before)
+    write_moves a.t a.begun a.client a.size a.fill at-start.requires.0.0.1 a.work.now (client-in at-nonce-for.before.before)
     (at-begin-write.before.before.before.part-bytes.ensures ∙ part_copies a.size top_length a.fill (omega arith))
-    (at-nonce-for.nonce-for.ensures ∙ rw add-one) at-begin-write.begin_write-n.ensures c.begun-2.ensures a.begun
+    (at-nonce-for.nonce_for-nonce.ensures ∙ rw add-one) at-begin-write.begin_write-n.ensures c.begun-2.ensures a.begun
     (counts-refused a.begun at-begin-write.begin_write-n.result c.before.if-n-eq0.false)
 
 pub write_spec : {M : Type 1} → statement M

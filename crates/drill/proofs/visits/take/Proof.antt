@@ -32,7 +32,7 @@ module _ (c : tie.After-keys_for-keys) where
       c.before.writers_for-writers.ensures
       ∙ ap (λ (z : List (List ℕ)). core_take a.t a.client lent.writers z (call_in w a.client) (kept_in w a.client) a.reply.now
       a.out.now) c.keys_for-keys.ensures
-      ∙ core_take_lem w a.client start.pre.0 start.pre.1 a.t lent.writers lent.keys a.reply.now a.out.now
+      ∙ core_take_lem w a.client start.requires.0 start.requires.1 a.t lent.writers lent.keys a.reply.now a.out.now
 
 -- Places far back, each named once: the place, and from where it is seen.
 abbrev keys-for-from-work : tie.After-work-1 → tie.After-keys_for-keys
@@ -42,7 +42,7 @@ put-call-requires : tie.Need-put_call-requires
 put-call-requires c κs =
     let at-work = c.before.before.before.before in
     let s = start (keys-for-from-work at-work) in
-    (s.pre.0, at-work.work-1.given.1 ∙ s.pre.1)
+    (s.requires.0, at-work.work-1.given.1 ∙ s.requires.1)
 
 returns : tie.Need-returns
 returns c =
@@ -53,7 +53,7 @@ returns c =
     let w = a.work.now in
     let at = k.before.before.kept_at-a in
     let t : tie.After-take_in-s = at-work.before in
-    takes_as w a.client s.pre.0 s.pre.1
+    takes_as w a.client s.requires.0 s.requires.1
     (λ x y. core_take a.t a.client k.before.writers_for-writers.result k.keys_for-keys.result x y a.reply.now a.out.now)
     (take_in_def a.t w a.client a.reply.now a.out.now) (at.result + 24576 - at.result) (same_keys k)
     k.before.before.before.call_of-call.ensures at.ensures.0 (omega arith) t.take_in-s.ensures

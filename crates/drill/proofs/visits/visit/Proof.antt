@@ -13,8 +13,8 @@ serve-requires : tie.Need-serve-sent-requires
 serve-requires c κs =
     let at-make = c.before.before.before.before.before in
     let at-start = start-from-make at-make in (
-      few-servers at-start.args.t at-start.args.server at-start.pre.0.0 at-start.pre.1.1,
-      at-start.pre.0.1,
+      few-servers at-start.args.t at-start.args.server at-start.requires.0.0 at-start.requires.1.1,
+      at-start.requires.0.1,
     )
 
 returns : tie.Need-returns
@@ -24,7 +24,7 @@ returns c =
     let at-make = at-serve.before.before.before.before.before.before in
     let at-start = start-from-make at-make in
     let a = at-start.args in
-    visit-done a.t a.client a.server a.work.now at-start.pre.0.0 at-start.pre.1.0 at-start.pre.1.1
+    visit-done a.t a.client a.server a.work.now at-start.requires.0.0 at-start.requires.1.0 at-start.requires.1.1
     at-make.make-made.ensures at-serve.before.before.part.ensures at-serve.serve-sent.ensures
     at_take.before.before.part-2.ensures at_take.take-taken.ensures c.taken.ensures
 

@@ -14,8 +14,8 @@ visit-requires c κs =
     let at-start = start-from-then1 at-then1 in
     let r = c.before.before.visit_refusal-n.ensures in (
       (
-        at-start.pre.0.1,
-        at-start.pre.1,
+        at-start.requires.0.1,
+        at-start.requires.1,
       ),
       (r.readers c.before.if-n-eq0.true, r.servers c.before.if-n-eq0.true),
     )

@@ -30,7 +30,7 @@ cast-pack c =
     let d = a.state.now in
     let l = at_rest.before.lent-n in
     let m = c.before.before.make_in-o in
-    let e = m.ensures ∙ core-made d at-start.pre a.t a.client a.server
+    let e = m.ensures ∙ core-made d at-start.requires a.t a.client a.server
     at_rest.before.before.read-call.result _ (take l.result a.out.now) at_rest.before.before.read-call.ensures at_rest.rest.ensures in
     let n : m.result.count ≤ packet_room = made-count a.out.now l.result l.ensures.0 l.ensures.1.0 l.ensures.1.1 a.t
     a.client a.server (call_at d) (kept_of_def d) m.result m.new.1.1.1.1.0 e m.auto.1.1.1.1.0 in omega (arith, n)
@@ -43,7 +43,7 @@ returns c =
     let d = a.state.now in
     let l = at_rest.before.lent-n in
     let m = c.before.before.before.make_in-o in
-    let e = m.ensures ∙ core-made d at-start.pre a.t a.client
+    let e = m.ensures ∙ core-made d at-start.requires a.t a.client
     a.server at_rest.before.before.read-call.result _ (take l.result a.out.now)
     at_rest.before.before.read-call.ensures at_rest.rest.ensures in
     made-out a.out.now l.result l.ensures.0 l.ensures.1.0 l.ensures.1.1 a.t a.client a.server (call_at d) (kept_of_def d)

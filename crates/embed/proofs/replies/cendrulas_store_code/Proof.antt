@@ -41,7 +41,7 @@ returns-2 c =
 cast-pack : tie.Need-overflow_cast-passed
 cast-pack c =
     let p = passed-from-head c.before.before.before in
-    let h = p.before.before.before.shared-slice-known.given head_size in
+    let h = p.before.before.before.shared_slice_known-1.given head_size in
     omega (arith, (read p).number, told_code (passed p).head (s p) c.before.if-head-ne-STORE_REPLY.false, get_or-drop head_size (s p) 0 0)
 
 returns-3 : tie.Need-returns

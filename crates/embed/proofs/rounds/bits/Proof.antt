@@ -26,7 +26,7 @@ loop-holds c = (omega arith, (refl, sym (bits_none _)))
 added : (c : tie.After-for_mark-sum invariant-loop decreases-loop) → c.for_mark-sum.result ≤ c.before.before.loop-i.bit
 added c =
     let l = c.before.before.loop-i in
-    rw c.for_mark-sum.ensures (for-le (not (eqb (get_or c.before.before.before.args.t1 l.i 0) 0)) l.bit)
+    rw c.for_mark-sum.ensures (for-le (not (eqb (get_or c.before.before.before.args.marks l.i 0) 0)) l.bit)
 
 room : (c : tie.After-for_mark-sum invariant-loop decreases-loop) → c.before.before.loop-i.bit ≤ 8192
 room c = let l = c.before.before.loop-i in rw l.invariant.1.0 (bit-room l.i l.invariant.0)

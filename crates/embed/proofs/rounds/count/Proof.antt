@@ -24,7 +24,7 @@ loop-holds : tie.Need-loop-i-init invariant-loop decreases-loop
 loop-holds c = (omega arith, sym (count_none _))
 
 added : (c : tie.After-for_mark-sum invariant-loop decreases-loop) → c.for_mark-sum.result ≤ 1
-added c = rw c.for_mark-sum.ensures (for-le (not (eqb (get_or c.before.before.before.args.t1 c.before.before.loop-i.i 0) 0)) 1)
+added c = rw c.for_mark-sum.ensures (for-le (not (eqb (get_or c.before.before.before.args.marks c.before.before.loop-i.i 0) 0)) 1)
 
 add-sum : tie.Need-overflow_add-sum invariant-loop decreases-loop
 add-sum c =

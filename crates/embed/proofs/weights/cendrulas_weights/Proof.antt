@@ -56,24 +56,24 @@ mul-put c =
     let past = weights-from-put c.before.before.before.before in
     let a = (start-from-weights past).args in
     let none = c.before.before.before.before.before.before.before.before.before.if-number-ne0.false in
-    omega (arith, square-most a.t a.servers.now past.weights.result past.weights.ensures none)
+    omega (arith, square-most a.t a.servers.now past.weights-made.result past.weights-made.ensures none)
 
 put-requires-2 : tie.Need-put-requires-2
 put-requires-2 c κs =
     let past = weights-from-put c.before.before.before.before in
     let a = (start-from-weights past).args in
-    let made = past.weights in
+    let made = past.weights-made in
     let none = c.before.before.before.before.before.before.before.before.before.if-number-ne0.false in
     let most = square-most a.t a.servers.now made.result made.ensures none in
     let l : length made.result.rows ≡ rows_room = search rules in
-    (omega (arith, most, l), omega (arith, most, past.before.if2.left))
+    (omega (arith, most, l), omega (arith, most, past.before.if-rows-lt-ROWS.left))
 
 cast-pack : tie.Need-overflow_cast-k
 cast-pack c =
     let at-put = c.before.before.before.before.before.before.before in
     let past = weights-from-put at-put in
     let a = (start-from-weights past).args in
-    omega (arith, count_most a.t a.servers.now past.weights.result past.weights.ensures at-put.before.before.before.before.before.if-number-ne0.false)
+    omega (arith, count_most a.t a.servers.now past.weights-made.result past.weights-made.ensures at-put.before.before.before.before.before.if-number-ne0.false)
 
 returns-4 : tie.Need-returns
 returns-4 c =
@@ -81,9 +81,9 @@ returns-4 c =
     let at-put = at-put2.before.before.before.before.before in
     let past = weights-from-put at-put in
     let a = (start-from-weights past).args in
-    let made = past.weights in
+    let made = past.weights-made in
     weights-given a.t a.servers.now a.used.now a.rows.now made.result made.ensures
-    at-put.before.before.before.before.before.if-number-ne0.false (omega (arith, past.before.before.if1.left)) (omega (arith, past.before.if2.left)) _ _
+    at-put.before.before.before.before.before.if-number-ne0.false (omega (arith, past.before.before.if-used-lt-WIDTH.left)) (omega (arith, past.before.if-rows-lt-ROWS.left)) _ _
     _ c.pack-2.ensures at-put.put.ensures at-put2.put-2.ensures
 
 pub cendrulas_weights_spec : {M : Type 1} → statement M

@@ -47,14 +47,14 @@ loop-again c =
     let new = c.add_server-d.result in
     let old = at.c in
     let t : ltb old.count k ≡ ltb (length ps) k = ap (λ (n : ℕ). ltb n k) (sym at.invariant.1) in
-    let s : among b (take old.count old.servers) ≡ among b (map g ps) = ap (among b) at.invariant.2.servers-is in
+    let s : among b (take old.count old.servers) ≡ among b (map g ps) = ap (among b) at.invariant.2.servers_is in
     let ps' = more (ltb (length ps) k) (among b (map g ps)) ps at.i in
     let places' : take new.count new.at ≡ ps' =
     c.add_server-d.ensures.1 ∙ ap₂ (λ x y. more x y (take old.count old.at) at.i) t s ∙ ap
     (λ x. more (ltb (length ps) k) (among b (map g ps)) x at.i) at.invariant.2.places_is in
     let servers' : take new.count new.servers ≡ map g ps' =
     c.add_server-d.ensures.2 ∙ ap₂ (λ x y. more x y (take old.count old.servers) b) t s ∙ ap
-    (λ x. more (ltb (length ps) k) (among b (map g ps)) x b) at.invariant.2.servers-is
+    (λ x. more (ltb (length ps) k) (among b (map g ps)) x b) at.invariant.2.servers_is
     ∙ sym (more-map g (ltb (length ps) k) (among b (map g ps)) ps at.i) in
     let la : length new.at ≡ width = search rules in
     let room' : new.count ≤ k = c.add_server-d.ensures.0 in

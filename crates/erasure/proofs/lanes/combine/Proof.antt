@@ -34,7 +34,7 @@ gather-requires : tie.Need-gather-requires invariant-loop decreases-loop
 gather-requires c κs =
     let at-loop = at-loop-from-lanes c in
     let start = at-loop.before.before.before.before.before in
-    (search rules, λ j h. omega (arith, start.pre.1 j h), at-loop.loop.inv.1)
+    (search rules, λ j h. omega (arith, start.requires.1 j h), at-loop.loop-q.invariant.1)
 
 lane-sum-requires : tie.Need-lane_sum-sum-requires invariant-loop decreases-loop
 lane-sum-requires c κs =
@@ -44,7 +44,7 @@ lane-sum-requires c κs =
       search rules,
       λ j i hj hi.
           subst (λ (x : ℕ). x < 256) (sym (c.before.gather.ensures.0 j hj i hi))
-          (src.shared-slice-known.given (get_or starts j 0 + (at-loop.loop.q + i))).fits,
+          (src.shared_slice_known-1.given (get_or starts j 0 + (at-loop.loop-q.q + i))).fits,
     )
 
 abbrev at-loop-from-lane-sum : tie.After-lane_sum-sum invariant-loop decreases-loop → tie.At-loop-q invariant-loop decreases-loop
@@ -55,17 +55,17 @@ add-store c =
     let at-lane-sum = c.before in
     let at-loop = at-loop-from-lane-sum at-lane-sum in
     let start = at-loop.before.before.before.before.before in
-    let l = at-loop.loop in
-    omega (arith, l.inv.2.long, start.pre.2)
+    let l = at-loop.loop-q in
+    omega (arith, l.invariant.2.long, start.requires.2)
 
 store-requires : tie.Need-store-requires invariant-loop decreases-loop
 store-requires c κs =
     let at-lane-sum = c.before in
     let at-loop = at-loop-from-lane-sum at-lane-sum in
     let start = at-loop.before.before.before.before.before in
-    let l = at-loop.loop in
+    let l = at-loop.loop-q in
     let n = at-lane-sum.before.before.before.before.at_most_lane-n in
-    (n.ensures.1, omega (arith, l.inv.2.long, start.pre.2, n.ensures.0))
+    (n.ensures.1, omega (arith, l.invariant.2.long, start.requires.2, n.ensures.0))
 
 abbrev lane-sum-from-slice-known2 : tie.After-slice_known-in-loop-q-1 invariant-loop decreases-loop → tie.After-lane_sum-sum invariant-loop decreases-loop
 lane-sum-from-slice-known2 c = c.before.before.before.before
@@ -75,13 +75,13 @@ add-q c =
     let at-lane-sum = lane-sum-from-slice-known2 c in
     let at-loop = at-loop-from-lane-sum at-lane-sum in
     let start = at-loop.before.before.before.before.before in
-    let l = at-loop.loop in
-    let n = at-lane-sum.before.before.before.before.at-most-lane in
+    let l = at-loop.loop-q in
+    let n = at-lane-sum.before.before.before.before.at_most_lane-n in
     omega (arith, n.ensures.0)
 
 loop-less : tie.Need-loop-q-smaller invariant-loop decreases-loop
 loop-less c =
-    let n = (lane-sum-from-slice-known2 c).before.before.before.before.at-most-lane in
+    let n = (lane-sum-from-slice-known2 c).before.before.before.before.at_most_lane-n in
     let h : 0 < n.result = n.ensures.2 (omega arith) in
     omega (arith, n.ensures.0, h)
 
@@ -91,10 +91,10 @@ loop-again c =
     let at-lane-sum = lane-sum-from-slice-known2 c in
     let at-loop = at-loop-from-lane-sum at-lane-sum in
     let args = at-loop.before.before.before.before.before.args in
-    let l = at-loop.loop in
-    let n = at-lane-sum.before.before.before.before.at-most-lane in
+    let l = at-loop.loop-q in
+    let n = at-lane-sum.before.before.before.before.at_most_lane-n in
     let lanes = at-lane-sum.before.before.gather in
-    let sum = at-lane-sum.lane-sum in
+    let sum = at-lane-sum.lane_sum-sum in
     let src = args.src.now in
     let old = args.out.now in
     let runs = args.runs in
@@ -107,7 +107,7 @@ loop-again c =
     (λ j. times (byte_at src runs.starts (l.q + i) j) (get_or args.weights j 0))
     (λ j hj. ap (λ (x : ℕ). times x (get_or args.weights j 0)) (lanes.ensures.0 j hj i b)))
     c.before.before.store.ensures in
-    (omega (arith, n.ensures.0), lanes.ensures.1, written_on old l.out _ args.at l.q n.result g l.inv.2 piece)
+    (omega (arith, n.ensures.0), lanes.ensures.1, written_on old l.out _ args.at l.q n.result g l.invariant.2 piece)
 
 same_length : tie.Need-shape_of-out invariant-loop decreases-loop
 same_length c = c.before.loop-q.invariant.2.long

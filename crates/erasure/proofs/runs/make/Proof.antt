@@ -39,7 +39,7 @@ plain-requires c κs =
 returns : tie.Need-returns-then-server-k
 returns c =
     let s = start-from-then1 c.before in
-    let pre = s.pre in
+    let pre = s.requires in
     let server = s.args.server in
     let small : (j : ℕ) → get_or (content s) j 0 < 256 = λ j. (c.before.before.shared_slice_known-2-1.given j).fits in
     c.plain.ensures
@@ -56,7 +56,7 @@ plain-runs-requires c κs = let pre = c.before.before.before.requires in (pre.1,
 value-requires : tie.Need-value-requires
 value-requires c κs =
     let s = start-from-plain-runs c.before in
-    let pre = s.pre in
+    let pre = s.requires in
     let runs = c.before.plain_runs in
     let many = runs.ensures.0 in (
       omega (arith, many, pre.1),
@@ -75,7 +75,7 @@ returns-2 : tie.Need-returns
 unfolding point_of
 returns-2 c =
     let s = start-from-plain-runs c.before.before in
-    let pre = s.pre in
+    let pre = s.requires in
     let runs = c.before.before.plain_runs in
     let server = s.args.server in
     let starts = runs.result.starts in

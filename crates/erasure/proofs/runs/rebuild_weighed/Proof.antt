@@ -19,7 +19,7 @@ write-runs-requires c κs =
     let at = c.before in
     let start = start-from-plain-runs at in
     let args = start.args in
-    let pre = start.pre in
+    let pre = start.requires in
     let runs = at.plain_runs in
     let count = runs.ensures.0 in
     let size = runs.ensures.1 in (
@@ -41,7 +41,7 @@ returns c =
     c.before.before.write_runs.ensures
     ∙ ap (λ (l : List ℕ). l ++ drop args.n args.out.now)
     (ap₂ (λ (x y : ℕ). weighed_of x y args.n args.rows fragments runs.result.starts) runs.ensures.0 runs.ensures.1
-    ∙ weighed-bytes args.k args.f args.n args.rows fragments runs.result.starts start.pre.1 runs.ensures.2)
+    ∙ weighed-bytes args.k args.f args.n args.rows fragments runs.result.starts start.requires.1 runs.ensures.2)
 
 pub rebuild_weighed_spec : {M : Type 1} → statement M
 rebuild_weighed_spec = tie.close (tie.spec (λ c κs. search rules) write-runs-requires (λ c. search rules) returns)

@@ -18,7 +18,7 @@ copy-requires : tie.Need-copy-requires
 copy-requires c κs =
     let at-unit-of = c.before.before.before in
     let start = start-from-unit-of at-unit-of in
-    (start.pre.1 at-unit-of.unit_of-j.result c.before.before.if-j-k.true, start.pre.2)
+    (start.requires.1 at-unit-of.unit_of-j.result c.before.before.if-j-k.true, start.requires.2)
 
 returns : tie.Need-returns-then-j-k
 returns c =
@@ -38,7 +38,7 @@ returns c =
 combine-requires : tie.Need-combine-requires
 combine-requires c κs =
     let start = start-from-unit-of c.before.before in
-    (start.pre.0, λ j h. omega (arith, start.pre.1 j h), start.pre.2, start.pre.3)
+    (start.requires.0, λ j h. omega (arith, start.requires.1 j h), start.requires.2, start.requires.3)
 
 returns-2 : tie.Need-returns
 returns-2 c = c.before.before.combine.ensures

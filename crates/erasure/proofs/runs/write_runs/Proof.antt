@@ -29,10 +29,10 @@ module _ (c : tie.In-loop-done invariant-loop decreases-loop) where
   done = c.before.loop-done.done
 
   has-byte : 0 < start.args.runs.size
-  has-byte = run_pos start.args.runs.count start.args.runs.size start.args.n done start.pre.1 (omega arith)
+  has-byte = run_pos start.args.runs.count start.args.runs.size start.args.n done start.requires.1 (omega arith)
 
   one_of : done / start.args.runs.size < start.args.runs.count
-  one_of = run_point start.args.runs.count start.args.runs.size start.args.n done start.pre.1 (omega arith)
+  one_of = run_point start.args.runs.count start.args.runs.size start.args.n done start.requires.1 (omega arith)
 
 row-at-requires : tie.Need-row_at-row-requires invariant-loop decreases-loop
 row-at-requires c κs = ((start c).requires.0, one_of c)
@@ -54,12 +54,12 @@ abbrev at-most-from-slice-known2 : tie.After-slice_known-in-loop-done-1 invarian
 at-most-from-slice-known2 c = c.before.before.before.before
 
 add_done : tie.Need-overflow_add-done invariant-loop decreases-loop
-add_done c = omega (arith, (at-most-from-slice-known2 c).at_most.ensures.0)
+add_done c = omega (arith, (at-most-from-slice-known2 c).at_most-m.ensures.0)
 
 loop-less : tie.Need-loop-done-smaller invariant-loop decreases-loop
 loop-less c =
     let at_most = at-most-from-slice-known2 c in
-    let m = at_most.at_most in
+    let m = at_most.at_most-m in
     let h : 0 < m.result = m.ensures.2 (omega arith) (has-byte at_most.before.before) in
     omega (arith, m.ensures.0, h)
 
@@ -67,17 +67,17 @@ loop-again : tie.Need-loop-done-preserved invariant-loop decreases-loop
 loop-again c =
     let at_most = at-most-from-slice-known2 c in
     let in-loop = at_most.before.before in
-    let l = in-loop.before.loop in
+    let l = in-loop.before.loop-done in
     let args = (start in-loop).args in
     let runs = args.runs in
     let f = runs.size in
-    let m = at_most.at_most in
-    let row = at_most.before.row_at in
-    let e : l.done % f ≡ 0 = l.inv.1 (omega arith) in (
+    let m = at_most.at_most-m in
+    let row = at_most.before.row_at-row in
+    let e : l.done % f ≡ 0 = l.invariant.1 (omega arith) in (
       omega (arith, m.ensures.0),
       λ h. (let q : m.result ≡ f = m.ensures.3 (omega arith) in ap (λ (x : ℕ). (l.done + x) % f) q ∙ add-mod_right l.done f ∙ e),
       run_more runs.count f l.done m.result args.rows row.result args.fragments.now runs.starts
-          args.out.now l.out _ e m.ensures.1 row.ensures l.inv.2 c.before.before.run.ensures,
+          args.out.now l.out _ e m.ensures.1 row.ensures l.invariant.2 c.before.before.run.ensures,
     )
 
 same_length : tie.Need-shape_of-out invariant-loop decreases-loop

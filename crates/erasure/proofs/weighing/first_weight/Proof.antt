@@ -23,7 +23,7 @@ returns c = (omega arith, c.before.before.loop-j.invariant.1)
 loop-again : tie.Need-loop-j-preserved invariant-loop decreases-loop
 loop-again c =
     let l = c.before.before.loop-j in
-    (search rules, below_more (λ (i : ℕ). get_or c.before.before.before.args.t1 i 0 ≡ 0) l.j l.invariant.1 c.if-row-j-ne0.false)
+    (search rules, below_more (λ (i : ℕ). get_or c.before.before.before.args.row i 0 ≡ 0) l.j l.invariant.1 c.if-row-j-ne0.false)
 
 returns-2 : tie.Need-returns invariant-loop decreases-loop
 returns-2 c = let l = c.before.loop-j in (omega arith, λ i h. l.invariant.1 i (omega arith))

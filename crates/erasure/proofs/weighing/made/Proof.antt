@@ -42,13 +42,13 @@ loop-from-out c = c.before.before.before.before.before
 abbrev start-from-loop : tie.At-loop-i invariant-loop decreases-loop → tie.Start invariant-loop decreases-loop
 start-from-loop c = c.before.before.before.before
 
-row_fits : (c : tie.After-out-1 invariant-loop decreases-loop) → let l = loop-from-out c in l.loop.i * (start-from-loop l).args.k + (start-from-loop l).args.k ≤ rows_room
+row_fits : (c : tie.After-out-1 invariant-loop decreases-loop) → let l = loop-from-out c in l.loop-i.i * (start-from-loop l).args.k + (start-from-loop l).args.k ≤ rows_room
 row_fits c =
     let l = loop-from-out c in
-    row_below (start-from-loop l).args.k l.loop.i (start-from-loop l).pre.1 (omega arith)
+    row_below (start-from-loop l).args.k l.loop-i.i (start-from-loop l).requires.1 (omega arith)
 
 slice-aggregate-copy-2 : tie.Need-slice_bounds-copy-end-in-loop-i invariant-loop decreases-loop
-slice-aggregate-copy-2 c = sym (loop-from-out c).loop.invariant.1.long
+slice-aggregate-copy-2 c = sym (loop-from-out c).loop-i.invariant.1.long
 
 mul-copy : tie.Need-overflow_mul-i invariant-loop decreases-loop
 mul-copy c = omega (arith, row_fits c)
@@ -57,7 +57,7 @@ copy-requires : tie.Need-copy-requires invariant-loop decreases-loop
 copy-requires c κs =
     let l : length c.before.before.row_of-row.result ≡ width = search rules in
     let start = start-from-loop (loop-from-out c) in
-    (omega (arith, l, start.pre.1), omega (arith, row_fits c, (loop-from-out c).loop.invariant.1.long))
+    (omega (arith, l, start.requires.1), omega (arith, row_fits c, (loop-from-out c).loop-i.invariant.1.long))
 
 loop-again : tie.Need-loop-i-preserved invariant-loop decreases-loop
 loop-again c =
@@ -65,11 +65,11 @@ loop-again c =
     let at-loop = loop-from-out at_out in
     let start = start-from-loop at-loop in
     let args = start.args in
-    let l = at-loop.loop in
+    let l = at-loop.loop-i in
     let row = at_out.before.before.row_of-row in (
       search rules,
-      row_more args.k l.i at-loop.before.system-of.result at-loop.before.before.places_of.result args.points.now
-          row.result (replicate rows_room 0) l.out _ (omega arith) row.ensures l.inv.1 c.before.copy.ensures,
+      row_more args.k l.i at-loop.before.system_of-a.result at-loop.before.before.places_of-places.result args.points.now
+          row.result (replicate rows_room 0) l.out _ (omega arith) row.ensures l.invariant.1 c.before.copy.ensures,
     )
 
 returns : tie.Need-returns invariant-loop decreases-loop
@@ -77,7 +77,7 @@ returns c =
     let at-loop = c.before in
     let start = start-from-loop at-loop in
     let args = start.args in
-    let pre = start.pre in
+    let pre = start.requires in
     let k = args.k in
     let l = at-loop.loop-i in
     let a = at-loop.before.system_of-a in

@@ -16,7 +16,7 @@ mul-copy c = let start = c.before in omega (arith, row_below start.args.k start.
 copy-requires : tie.Need-copy-requires
 copy-requires c κs =
     let start = c.before.before in
-    let l : length start.args.t1 ≡ rows_room = search rules in
+    let l : length start.args.rows ≡ rows_room = search rules in
     (omega (arith, l, row_below start.args.k start.args.i start.requires.0 start.requires.1), omega (arith, start.requires.0))
 
 returns : tie.Need-returns

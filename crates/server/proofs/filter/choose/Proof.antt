@@ -34,8 +34,8 @@ returns-3 c =
     let at-slot-with = slot-with-from-else2 at-else2 in
     let a = (start-from-slot-with at-slot-with).args in
     highest-tagged a.memory.now a.key a.opened a.list.now a.count (omega arith)
-    (λ i. (at-slot-with.before.before.before.shared-slice-known2.given i).fits) at-slot-with.before.before.next-rank.ensures
-    (omega (arith, at-slot-with.before.if1.left)) at-slot-with.slot-with.ensures at-else2.before.before.before.slot-candidate.ensures
+    (λ i. (at-slot-with.before.before.before.shared_slice_known-2-1.given i).fits) at-slot-with.before.before.next_rank-rank.ensures
+    (omega (arith, at-slot-with.before.if-rank-eq0.left)) at-slot-with.slot_with-i.ensures at-else2.before.before.before.slot-candidate.ensures
     at-else2.before.before.digest_nonce-digest.ensures at-else2.before.by_history.ensures
     c.before.before.before.if-by_history.false c.before.before.prepare-prepared.ensures c.before.by_tag.ensures c.if-by_tag.true
 
@@ -46,8 +46,8 @@ returns-4 c =
     let at-start = start-from-slot-with at-slot-with in
     let a = at-start.args in
     then-under a.memory.now a.key a.opened a.list.now a.count (omega (arith, at-start.fits.count.fits))
-    (λ i. (at-slot-with.before.before.before.shared-slice-known2.given i).fits) at-slot-with.before.before.next-rank.ensures
-    (omega (arith, at-slot-with.before.if1.left)) at-slot-with.slot-with.ensures at-else2.before.before.before.slot-candidate.ensures
+    (λ i. (at-slot-with.before.before.before.shared_slice_known-2-1.given i).fits) at-slot-with.before.before.next_rank-rank.ensures
+    (omega (arith, at-slot-with.before.if-rank-eq0.left)) at-slot-with.slot_with-i.ensures at-else2.before.before.before.slot-candidate.ensures
     at-else2.before.before.digest_nonce-digest.ensures at-else2.before.by_history.ensures
     at-else2.if-by_history.false c.before.before.before.prepare-prepared.ensures c.before.before.by_tag.ensures
     c.before.if-by_tag.false c.choose_under.result c.choose_under.ensures

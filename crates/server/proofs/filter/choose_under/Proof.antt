@@ -48,7 +48,7 @@ loop-again c =
     let a = (start-from-slot-with at-slot-with).args in
     λ key made none. try-under a.memory.now key a.opened a.list.now a.count
     (none_from a.memory.now key a.opened a.list.now a.count (omega arith)
-    (at-slot-with.before.before.loop.inv key made none) (omega arith) at-slot-with.slot-with.ensures
+    (at-slot-with.before.before.loop-rank.invariant key made none) (omega arith) at-slot-with.slot_with-i.ensures
     c.before.before.before.slot.ensures (c.before.before.valid_prepared.ensures key made) c.before.if-valid_prepared.false) c.next_rank-rank-in-loop-rank.ensures
 
 returns-2 : tie.Need-returns invariant-loop decreases-loop

@@ -24,7 +24,7 @@ cast-count c =
     let at_rest = c.before.before in
     let z = start-from-rest at_rest in
     let h = at_rest.before.before.before.shared_slice_known-1.given head_size in
-    omega (arith, z.pre.1, get_or-drop head_size z.args.packet.now 0 0)
+    omega (arith, z.requires.1, get_or-drop head_size z.args.packet.now 0 0)
 
 returns : tie.Need-returns-in_default
 returns c =
@@ -35,9 +35,9 @@ returns c =
     let z = start-from-rest at_rest in
     let a = z.args in
     let slices = at_rest.before.before.before in
-    filter-nothing (λ i. (slices.before.slice-known.given i).fits) a.key a.packet.now (λ i. (slices.shared-slice-known.given i).fits)
+    filter-nothing (λ i. (slices.before.slice_known-1.given i).fits) a.key a.packet.now (λ i. (slices.shared_slice_known-1.given i).fits)
     a.out.now a.passed.head o own dec k room at_rest.rest.ensures at-choose.before.before.before.rest-list.ensures
-    (z.pre.1 ∙ ap (λ (d : List ℕ). get_or d 0 0) (sym at_rest.rest.ensures)) at-choose.choose.result
+    (z.requires.1 ∙ ap (λ (d : List ℕ). get_or d 0 0) (sym at_rest.rest.ensures)) at-choose.choose.result
     at-choose.choose.ensures at-blank.before.before.enum_told-1.given.1 at-blank.blank.ensures c.before.before.reply_held.ensures
 
 returns-2 : tie.Need-returns
@@ -50,9 +50,9 @@ returns-2 c =
     let z = start-from-rest at_rest in
     let a = z.args in
     let slices = at_rest.before.before.before in
-    filter-chosen (λ i. (slices.before.slice-known.given i).fits) a.key a.packet.now (λ i. (slices.shared-slice-known.given i).fits)
+    filter-chosen (λ i. (slices.before.slice_known-1.given i).fits) a.key a.packet.now (λ i. (slices.shared_slice_known-1.given i).fits)
     a.out.now a.passed.head o own dec k room at_rest.rest.ensures at-choose.before.before.before.rest-list.ensures
-    (z.pre.1 ∙ ap (λ (d : List ℕ). get_or d 0 0) (sym at_rest.rest.ensures)) at-choose.choose.result
+    (z.requires.1 ∙ ap (λ (d : List ℕ). get_or d 0 0) (sym at_rest.rest.ensures)) at-choose.choose.result
     at-choose.choose.ensures at_slot.before.before.i-1.given.1 at_slot.slot-chosen.ensures at-reply-held2.before.before.stamp_at.ensures
     at-reply-held2.reply_held-r.ensures c.before.before.raise.ensures
 

@@ -14,7 +14,7 @@ returns c =
     let at-find = at_part.before.before.before.before.before in
     let at-shared-slice-known = shared-slice-known-from-find at-find in
     let a = at-shared-slice-known.before.args in
-    held-nothing a.memory.now (λ i. (at-shared-slice-known.shared-slice-known.given i).fits) a.head a.opened a.stamp a.out.now
+    held-nothing a.memory.now (λ i. (at-shared-slice-known.shared_slice_known-1.given i).fits) a.head a.opened a.stamp a.out.now
     at-find.before.before.held_head-nothing.ensures at-find.find.result at-find.find.ensures
     at_part.before.before.before.enum_told-1.given.1 at_part.part.ensures
     at_part.before.before.reply_head.ensures c.before.before.make_packet.ensures
@@ -26,7 +26,7 @@ returns-2 c =
     let at-find = at_at.before.before in
     let at-shared-slice-known = shared-slice-known-from-find at-find in
     let a = at-shared-slice-known.before.args in
-    held_share a.memory.now (λ i. (at-shared-slice-known.shared-slice-known.given i).fits) a.head a.opened a.stamp a.out.now
+    held_share a.memory.now (λ i. (at-shared-slice-known.shared_slice_known-1.given i).fits) a.head a.opened a.stamp a.out.now
     at-find.before.before.held_head-nothing.ensures at-find.find.result at-find.find.ensures at_at.at-1.given.1
     at-share-bytes.before.before.before.held_head-bytes.ensures at-share-bytes.share_bytes.ensures
     at-share-bytes.before.before.reply_head-2.ensures c.before.before.make_packet-2.ensures

@@ -27,7 +27,7 @@ returns-2 c =
     let at_rest = c.before.before.before in
     let at-known = known-from-else1 at_rest.before in
     let a = at-known.before.args in repeats-found a.memory.now a.read
-    (λ i. (at-known.shared-slice-known.given i).fits) at_rest.rest.ensures c.enum_told-in_default-1.given.1
+    (λ i. (at-known.shared_slice_known-1.given i).fits) at_rest.rest.ensures c.enum_told-in_default-1.given.1
     c.before.before.find_ranked.ensures
 
 returns-3 : tie.Need-returns
@@ -35,7 +35,7 @@ returns-3 c =
     let at_rest = c.before.before.before in
     let at-known = known-from-else1 at_rest.before in
     let a = at-known.before.args in repeats_none a.memory.now a.read
-    (λ i. (at-known.shared-slice-known.given i).fits) at_rest.rest.ensures c.enum_told-1.given.1
+    (λ i. (at-known.shared_slice_known-1.given i).fits) at_rest.rest.ensures c.enum_told-1.given.1
     c.before.before.find_ranked.ensures
 
 pub repeats_spec : {M : Type 1} → statement M

@@ -36,22 +36,22 @@ at-loop-from-else1 c = c.before.before.before.before.before
 
 -- the bytes of the write at the place that the walk has reached
 size_is : (c : tie.After-fragment_size invariant-loop decreases-loop)
-    → stamp_size + (at-loop-from-else1 c.before.before.before).before.before.share-size.result + c.fragment_size.result ≡
+    → stamp_size + (at-loop-from-else1 c.before.before.before).before.before.share_size-frame.result + c.fragment_size.result ≡
     write_size (shelf (shared-slice-known-from-at-loop (at-loop-from-else1 c.before.before.before)).before.args.t)
-    (drop (at-loop-from-else1 c.before.before.before).loop.at
+    (drop (at-loop-from-else1 c.before.before.before).loop-i.at
     (shared-slice-known-from-at-loop (at-loop-from-else1 c.before.before.before)).before.args.memory.now)
 size_is c =
     let at-else1 = c.before.before.before in
     let at-loop = at-loop-from-else1 at-else1 in
     let at-shared-slice-known = shared-slice-known-from-at-loop at-loop in
     size-told at-shared-slice-known.before.args.t at-shared-slice-known.before.args.memory.now
-    at-loop.loop.at at-else1.before.before.before.rest-write.ensures c.before.before.rest.ensures c.before.number2-length.ensures
-    at-loop.before.before.share-size.ensures c.fragment_size.ensures
+    at-loop.loop-i.at at-else1.before.before.before.rest-write.ensures c.before.before.rest-write.ensures c.before.number2-length.ensures
+    at-loop.before.before.share_size-frame.ensures c.fragment_size.ensures
 
 returns : tie.Need-returns-then-same invariant-loop decreases-loop
 returns c =
     let at-loop = c.before.before.before.before.before in
-    walk-found at-loop.loop-i.invariant.1 (λ i. ((shared-slice-known-from-at-loop at-loop).shared-slice-known.given i).fits) (omega arith)
+    walk-found at-loop.loop-i.invariant.1 (λ i. ((shared-slice-known-from-at-loop at-loop).shared_slice_known-1.given i).fits) (omega arith)
     c.before.before.before.rest-write.ensures c.before.before.part.ensures c.before.same.ensures c.if-same.true
 
 add-size : tie.Need-overflow_add-size invariant-loop decreases-loop
@@ -62,7 +62,7 @@ add-size c =
     let at-shared-slice-known = shared-slice-known-from-at-loop at-loop in
     omega (
       arith,
-      at-loop.before.before.share-size.ensures,
+      at-loop.before.before.share_size-frame.ensures,
       c.fragment_size.ensures,
       fragment-few at-shared-slice-known.before.args.t c.before.number2-length.result,
       no-fragment at-shared-slice-known.before.args.t,
@@ -72,7 +72,7 @@ returns-2 : tie.Need-returns-then-write-size invariant-loop decreases-loop
 returns-2 c =
     let at-else1 = c.before.before.before.before in
     let at-loop = at-loop-from-else1 at-else1 in
-    walk_short at-loop.loop.inv.1 (λ i. ((shared-slice-known-from-at-loop at-loop).shared-slice-known.given
+    walk_short at-loop.loop-i.invariant.1 (λ i. ((shared-slice-known-from-at-loop at-loop).shared_slice_known-1.given
     i).fits) (omega arith) at-else1.before.before.before.rest-write.ensures (size_is c.before) c.if-write-size.true
 
 abbrev else1-from-else2 : tie.Else-write-size invariant-loop decreases-loop → tie.Else-same invariant-loop decreases-loop
@@ -85,9 +85,9 @@ add_at c =
     let at-loop = at-loop-from-else1 at-else1 in
     omega (
       arith,
-      at-loop.before.before.share-size.ensures,
-      ap length at-else1.before.before.before.rest.ensures,
-      length-drop at-loop.loop.at (shared-slice-known-from-at-loop at-loop).before.args.memory.now,
+      at-loop.before.before.share_size-frame.ensures,
+      ap length at-else1.before.before.before.rest-write.ensures,
+      length-drop at-loop.loop-i.at (shared-slice-known-from-at-loop at-loop).before.args.memory.now,
       c.if-write-size.false,
     )
 
@@ -96,9 +96,9 @@ loop-again c =
     let at-else1 = else1-from-else2 c in
     let at-loop = at-loop-from-else1 at-else1 in (
       omega arith,
-      walk_more at-loop.loop.inv.1 (λ i. ((shared-slice-known-from-at-loop at-loop).shared-slice-known.given
-          i).fits) (omega arith) at-else1.before.before.before.rest.ensures
-          at-else1.before.before.part.ensures at-else1.before.same.ensures at-else1.if1.left (size_is c.before),
+      walk_more at-loop.loop.invariant.1 (λ i. ((shared-slice-known-from-at-loop at-loop).shared_slice_known-1.given
+          i).fits) (omega arith) at-else1.before.before.before.rest-write.ensures
+          at-else1.before.before.part.ensures at-else1.before.same.ensures at-else1.if-same.left (size_is c.before),
     )
 
 returns-3 : tie.Need-returns invariant-loop decreases-loop

@@ -28,8 +28,8 @@ returns-2 c =
     let at_rest = rest-from-enum-told at-enum-told in
     λ key o own dec k room.
     let a = (start-from-rest at_rest).args in
-    answer_full (λ i. (at_rest.before.before.before.slice-known.given i).fits) a.packet.now
-    (λ i. (at_rest.before.before.shared-slice-known.given i).fits) a.out.now a.head key o own dec k room at_rest.rest.ensures
+    answer_full (λ i. (at_rest.before.before.before.slice_known-1.given i).fits) a.packet.now
+    (λ i. (at_rest.before.before.shared_slice_known-1.given i).fits) a.out.now a.head key o own dec k room at_rest.rest-write.ensures
     at-enum-told.before.before.find.ensures at-enum-told.enum_told-1.given.1 (omega arith) c.before.before.store_reply-then-opened-ge-CAPACITY.ensures
 
 returns-3 : tie.Need-returns
@@ -39,7 +39,7 @@ returns-3 c =
     let at_rest = rest-from-enum-told at-enum-told in
     λ key o own dec k room.
     let a = (start-from-rest at_rest).args in
-    answer-kept (λ i. (at_rest.before.before.before.slice-known.given i).fits) a.packet.now (λ i. (at_rest.before.before.shared-slice-known.given i).fits) a.out.now a.head key o own dec k room at_rest.rest.ensures
+    answer-kept (λ i. (at_rest.before.before.before.slice_known-1.given i).fits) a.packet.now (λ i. (at_rest.before.before.shared_slice_known-1.given i).fits) a.out.now a.head key o own dec k room at_rest.rest-write.ensures
     at-enum-told.before.before.find.ensures at-enum-told.enum_told-1.given.1 (omega arith)
     at-keep-write.keep_write.ensures c.before.before.store_reply-2.ensures
 

@@ -15,7 +15,7 @@ filter-requires : tie.Need-filter-requires
 filter-requires c κs =
     let at-arm = c.before.before in
     let z = start-from-head at-arm.before in
-    (z.pre.0, z.pre.1 ∙ told-count z.args.passed.head z.args.packet.now at-arm.in-9.keys5)
+    (z.requires.0, z.requires.1 ∙ told-count z.args.passed.head z.args.packet.now at-arm.in-9.keys5)
 
 returns : tie.Need-returns-in-1
 returns c =

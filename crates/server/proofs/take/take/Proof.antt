@@ -34,7 +34,7 @@ returns-3 c =
     let at-else1 = else1-from-opened at-opened in
     let a = (start-from-else1 at-else1).args in
     let m = opens at-opened in
-    take_unread a.memory.now a.key.now a.packet.now a.out.now at-else1.if1.left m
+    take_unread a.memory.now a.key.now a.packet.now a.out.now at-else1.if-memory-ne-MEMORY.left m
     (rw c.before.enum_told-in_default-read_packet-1.given.1 at c.before.before.before.read_packet.ensures) c.refused-in_default-read_packet.ensures
 
 abbrev opened-from-passed : tie.In-Value-read_packet-2 → tie.In-Value-2
@@ -55,7 +55,7 @@ returns-4 c =
     let a = (start-from-else1 at-else1).args in
     let m = opens at-opened in
     let p = read at-passed in
-    take-refused a.memory.now a.key.now a.packet.now a.out.now at-else1.if1.left m _ p.packet
+    take-refused a.memory.now a.key.now a.packet.now a.out.now at-else1.if-memory-ne-MEMORY.left m _ p.packet
     (c.before.before.refusal-number.ensures a.packet.now p.label) c.before.if-number-ne0.true c.refused-then-number-ne0.ensures
 
 answer-requires : tie.Need-answer-requires
@@ -74,7 +74,7 @@ returns-5 c =
     let a = (start-from-else1 at-else1).args in
     let m = opens at-opened in
     let p = read at-passed in
-    take-answered a.memory.now a.key.now a.packet.now a.out.now at-else1.if1.left m _ p.packet
+    take-answered a.memory.now a.key.now a.packet.now a.out.now at-else1.if-memory-ne-MEMORY.left m _ p.packet
     (at-else2.before.refusal-number.ensures a.packet.now p.label)
     at-else2.if-number-ne0.false at-answer.answer.ensures
 

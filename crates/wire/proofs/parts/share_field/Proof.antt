@@ -30,7 +30,7 @@ length-took c = rw c.n-1.given.1 at c.before.before.number2_field.ensures
 
 -- what follows the length
 size_is : (c : tie.After-share_size-size)
-    → c.share_size-size.result - 2 ≡ share_size_def (shelf (start-from-n (n-from-share-size c)).args.t) (n-from-share-size c).n.given.0.0 - 2
+    → c.share_size-size.result - 2 ≡ share_size_def (shelf (start-from-n (n-from-share-size c)).args.t) (n-from-share-size c).n-1.given.0.0 - 2
 size_is c = ap (λ (k : ℕ). k - 2) c.share_size-size.ensures
 
 sub-size : tie.Need-overflow_sub-size
