@@ -16,9 +16,9 @@ returns c =
     let a = c.before.before.before.args in
     let m : List ℕ = a.m.now in
     let n : ℕ = 64 + length m + 32 in
-    let d : length a.t3 ≡ 32 = search rules in
-    let e : 64 + length (m ++ a.t3) ≡ n = omega (arith, length-append m a.t3) in
-    cc (append_assoc m a.t3 (padding n))
+    let d : length a.d ≡ 32 = search rules in
+    let e : 64 + length (m ++ a.d) ≡ n = omega (arith, length-append m a.d) in
+    cc (append_assoc m a.d (padding n))
 
 pub digest_after_with_spec : {M : Type 1} → statement M
 digest_after_with_spec = tie.close (tie.spec (λ c. search rules) (λ c. search rules) (λ c. search rules) (λ c κs. search rules) returns)

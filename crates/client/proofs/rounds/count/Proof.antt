@@ -39,13 +39,13 @@ add-c : tie.Need-overflow_add-c invariant-loop decreases-loop
 add-c c =
     let l = c.before.before.loop-i in
     let a = c.before.before.before.args in
-    omega (arith, l.invariant.1, l.invariant.0, count-le l.i (marked a.t1), one-le c, c.before.before.before.requires)
+    omega (arith, l.invariant.1, l.invariant.0, count-le l.i (marked a.marks), one-le c, c.before.before.before.requires)
 
 loop-again : tie.Need-loop-i-preserved invariant-loop decreases-loop
 loop-again c =
     let l = c.before.before.loop-i in
     let a = c.before.before.before.args in
-    (omega arith, omega (arith, l.invariant.1, count_more l.i (marked a.t1), one-is c))
+    (omega arith, omega (arith, l.invariant.1, count_more l.i (marked a.marks), one-is c))
 
 returns : tie.Need-returns invariant-loop decreases-loop
 returns c =

@@ -28,9 +28,9 @@ returns c =
     let at-write-at = c.before.before.before.before.before.before in
     let at-start = start-from-write-at at-write-at in
     let a = at-start.args in
-    let z : length a.t3 ≡ digest_size = search rules in
+    let z : length a.digest ≡ digest_size = search rules in
     c.before.before.write_at-2.ensures ∙ rw at-write-at.write_at.ensures
-    (put_put a.common.now a.at digest_size a.t3 a.tags.now z at-start.requires)
+    (put_put a.common.now a.at digest_size a.digest a.tags.now z at-start.requires)
 
 pub put_common_spec : {M : Type 1} → statement M
 put_common_spec = tie.close (tie.spec (λ c. search rules) write-at-requires add-write-at write-at-requires-2 (λ c. search rules) returns)

@@ -28,7 +28,7 @@ module _ (c : tie.At-loop-i invariant-loop decreases-loop) where
   same_size =
       let a = c.before.args in
       let e = eight c.before in
-      ap length c.loop-i.invariant.1 ∙ length-paste a.out.now a.at a.t3 c.loop-i.i (omega arith) (omega arith)
+      ap length c.loop-i.invariant.1 ∙ length-paste a.out.now a.at a.column c.loop-i.i (omega arith) (omega arith)
 
 slice-write-out : tie.Need-bounds-out-at invariant-loop decreases-loop
 slice-write-out c = omega (arith, same_size c.before)
@@ -39,9 +39,9 @@ loop-again c =
     let i = c.before.loop-i.i in
     let e = eight c.before.before in (
       omega arith,
-      ap (λ (z : List ℕ). set z (a.at + i) (get_or a.t3 i 0)) c.before.loop-i.invariant.1
-          ∙ paste-suc a.out.now a.at a.t3 i 0 (omega arith) (omega arith)
-          ∙ ap (paste a.out.now a.at a.t3) (sym (add-one i)),
+      ap (λ (z : List ℕ). set z (a.at + i) (get_or a.column i 0)) c.before.loop-i.invariant.1
+          ∙ paste-suc a.out.now a.at a.column i 0 (omega arith) (omega arith)
+          ∙ ap (paste a.out.now a.at a.column) (sym (add-one i)),
     )
 
 same_length : tie.Need-shape_of-out invariant-loop decreases-loop

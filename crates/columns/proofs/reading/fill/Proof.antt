@@ -37,8 +37,8 @@ loop-again : tie.Need-loop-j-preserved invariant-loop decreases-loop
 loop-again c =
     let at-loop = c.before.before.before in
     let a = at-loop.before.before.before.args in
-    filling_more a.text.now a.values.now at-loop.loop-j.values at-loop.loop-j.j at-loop.loop-j.invariant c.value_of_lem.result
-    (omega (arith, at-loop.loop-j.invariant.size)) (c.value_of_lem.ensures ∙ ap or_zero c.before.column_at.ensures)
+    filling_more a.text.now a.values.now at-loop.loop-j.values at-loop.loop-j.j at-loop.loop-j.invariant c.value_of.result
+    (omega (arith, at-loop.loop-j.invariant.size)) (c.value_of.ensures ∙ ap or_zero c.before.column_at.ensures)
 
 same_length : tie.Need-shape_of-values invariant-loop decreases-loop
 same_length c = c.before.loop-j.invariant.size

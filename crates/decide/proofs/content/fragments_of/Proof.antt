@@ -46,7 +46,7 @@ fine c =
     let at-start = start-from-at-loop at-loop in
     let a = at-start.args in
     let p = at-start.requires in
-    turn a.t a.kept.now a.t4 a.n p.0 p.1 p.2 c.before.before.before.fragment_size-f.result c.before.loop-p.p
+    turn a.t a.kept.now a.servers a.n p.0 p.1 p.2 c.before.before.before.fragment_size-f.result c.before.loop-p.p
     c.before.before.before.fragment_size-f.ensures (omega (arith, c.before.before.threshold-k.ensures.0))
 
 copy-requires : tie.Need-copy-requires invariant-loop decreases-loop
@@ -57,10 +57,10 @@ copy-requires c κs =
     let p = at-start.requires in
     let f = at-loop.before.before.fragment_size-f in
     let l : c.before.before.before.loop-p.p < (shelf a.t).threshold = omega (arith, at-loop.before.threshold-k.ensures.0) in
-    let at : ℕ = replies_place + reply_slot * (get_or a.t4 c.before.before.before.loop-p.p 0 - 1) + (stamp_size + 3) in
+    let at : ℕ = replies_place + reply_slot * (get_or a.servers c.before.before.before.loop-p.p 0 - 1) + (stamp_size + 3) in
     omega (
       arith,
-      source-length a.t a.kept.now a.t4 a.n p.0 p.1 p.2 f.result c.before.before.before.loop-p.p at f.ensures l refl,
+      source-length a.t a.kept.now a.servers a.n p.0 p.1 p.2 f.result c.before.before.before.loop-p.p at f.ensures l refl,
       c.before.before.before.loop-p.invariant.1,
       fine c.before.before,
     )
@@ -73,9 +73,9 @@ loop-again c =
     let p = at-start.requires in
     let v = at-loop.loop-p.invariant in
     let l : at-loop.loop-p.p < (shelf a.t).threshold = omega (arith, at-loop.before.threshold-k.ensures.0) in
-    let at : ℕ = replies_place + reply_slot * (get_or a.t4 at-loop.loop-p.p 0 - 1) + (stamp_size + 3) in
+    let at : ℕ = replies_place + reply_slot * (get_or a.servers at-loop.loop-p.p 0 - 1) + (stamp_size + 3) in
     let w =
-    fragments_more a.t a.kept.now a.t4 a.n p.0 p.1 p.2 at-loop.loop-p.out
+    fragments_more a.t a.kept.now a.servers a.n p.0 p.1 p.2 at-loop.loop-p.out
     c.before.copy.new.0 at-loop.before.before.fragment_size-f.result at-loop.loop-p.p at
     at-loop.before.before.fragment_size-f.ensures l refl v.1 v.2 c.before.copy.ensures in
     (omega arith, w.0, w.1)
@@ -90,7 +90,7 @@ returns c =
     record {
       long = omega (arith, fragments-room a.t a.n p.0.high p.1, c.before.loop-p.invariant.1);
       each = λ q l. subst
-          (λ (f : ℕ). bytes_at c.before.loop-p.out (q * f) f ≡ (fragment_of a.kept.now f (get_or a.t4 q 0)).bytes) e
+          (λ (f : ℕ). bytes_at c.before.loop-p.out (q * f) f ≡ (fragment_of a.kept.now f (get_or a.servers q 0)).bytes) e
           (c.before.loop-p.invariant.2 q (omega (arith, c.before.before.threshold-k.ensures.0)));
     }
 

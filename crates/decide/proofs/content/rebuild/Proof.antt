@@ -114,14 +114,14 @@ returns c =
     at-fragments-of.before.before.before.type_size.ensures in
     let k = at-fragments-of.before.before.threshold-k.ensures.0 in
     let f = at-fragments-of.before.fragment_size.ensures in
-    rebuilt a.t a.kept.now a.t4 at-fragments-of.before.before.before.type_size.result
+    rebuilt a.t a.kept.now a.servers at-fragments-of.before.before.before.type_size.result
     p.0 (omega (arith, p.2.top, n)) p.3 a.b at-fragments-of.fragments_of-fragments.result
     a.out.now at_restore.restore-r.new.1.1.1.1.0
     at_restore.restore-r.result n at-start.good.1.1.1.0.1.0.1 at-fragments-of.fragments_of-fragments.ensures p.4 (at_restore.restore-r.ensures
     ∙ lent a.t at-fragments-of.before.before.before.type_size.result
     at-fragments-of.before.before.threshold-k.result (shelf a.t).threshold at-fragments-of.before.fragment_size.result
     (fragment_size_def (shelf a.t).threshold at-fragments-of.before.before.before.type_size.result)
-    a.t4 at-fragments-of.fragments_of-fragments.result a.out.now k f)
+    a.servers at-fragments-of.fragments_of-fragments.result a.out.now k f)
 
 pub rebuild_spec : {M : Type 1} → statement M
 rebuild_spec = tie.close (tie.spec (λ c. omega (arith, c.before.before.requires.0.size)) (λ c. omega (arith, c.before.before.requires.0.size))

@@ -28,7 +28,7 @@ decreases-loop kept key replied s n₀ j₀ n j = s - j
 loop-holds : tie.Need-loop-j-init invariant-loop decreases-loop
 loop-holds c =
     let a = c.before.before.args in
-    (omega arith, sym (count_none (ranks_below (marked a.t2.marks) (replies_in (shelf a.t2.t) a.t2.marks a.kept.now) a.key)))
+    (omega arith, sym (count_none (ranks_below (marked a.replied.marks) (replies_in (shelf a.replied.t) a.replied.marks a.kept.now) a.key)))
 
 -- Places far back, each named once: the place, and from where it is seen.
 abbrev start-from-in-loop : tie.In-loop-j invariant-loop decreases-loop → tie.Start invariant-loop decreases-loop
@@ -60,7 +60,7 @@ add-n : tie.Need-overflow_add-n invariant-loop decreases-loop
 add-n c =
     let at-start = start-from-is-lower c in
     let a = at-start.args in
-    let p = ranks_below (marked a.t2.marks) (replies_in (shelf a.t2.t) a.t2.marks a.kept.now) a.key in
+    let p = ranks_below (marked a.replied.marks) (replies_in (shelf a.replied.t) a.replied.marks a.kept.now) a.key in
     let j = slot-low c in
     omega (
       arith,
@@ -69,7 +69,7 @@ add-n c =
       c.is_lower-n.ensures,
       at-start.requires.high,
       c.before.before.before.before.servers-s.ensures.1,
-      bit_le (not (eqb (get_or a.t2.marks c.before.before.before.loop-j.j 0) 0) && ltb (rank_at a.kept.now
+      bit_le (not (eqb (get_or a.replied.marks c.before.before.before.loop-j.j 0) 0) && ltb (rank_at a.kept.now
           (replies_place + reply_slot * c.before.before.before.loop-j.j)) a.key),
     )
 
@@ -79,10 +79,10 @@ add-j c = omega (arith, c.before.before.before.before.servers-s.ensures.1, (star
 loop-again : tie.Need-loop-j-preserved invariant-loop decreases-loop
 loop-again c =
     let a = (start-from-is-lower c).args in
-    let p = ranks_below (marked a.t2.marks) (replies_in (shelf a.t2.t) a.t2.marks a.kept.now) a.key in
+    let p = ranks_below (marked a.replied.marks) (replies_in (shelf a.replied.t) a.replied.marks a.kept.now) a.key in
     let j = slot-low c in
     let e : c.is_lower-n.result ≡ bit (p (suc c.before.before.before.loop-j.j)) = c.is_lower-n.ensures ∙ ap bit
-    (sym (below-slot (shelf a.t2.t) a.kept.now a.t2.marks a.key c.before.before.before.loop-j.j j)) in
+    (sym (below-slot (shelf a.replied.t) a.kept.now a.replied.marks a.key c.before.before.before.loop-j.j j)) in
     (omega arith, omega (arith, c.before.before.before.loop-j.invariant.1, count_more c.before.before.before.loop-j.j p, e))
 
 sub-result : tie.Need-overflow_sub-result invariant-loop decreases-loop
@@ -92,11 +92,11 @@ returns : tie.Need-returns invariant-loop decreases-loop
 unfolding stays
 returns c =
     let a = c.before.before.before.before.args in
-    let p = ranks_below (marked a.t2.marks) (replies_in (shelf a.t2.t) a.t2.marks a.kept.now) a.key in
-    let e : c.before.loop-j.j ≡ (shelf a.t2.t).servers = omega (arith, c.before.before.servers-s.ensures.0) in
-    let n : c.before.loop-j.n ≡ count_to (shelf a.t2.t).servers p = c.before.loop-j.invariant.1 ∙ ap (λ (k : ℕ). count_to k p) e in
-    ap (λ (x : ℕ). ltb x (c.before.before.servers-s.result - a.t2.t)) n
-    ∙ ap (λ (x : ℕ). ltb (count_to (shelf a.t2.t).servers p) x) (quorum_of a.t2.t c.before.before.servers-s.result
+    let p = ranks_below (marked a.replied.marks) (replies_in (shelf a.replied.t) a.replied.marks a.kept.now) a.key in
+    let e : c.before.loop-j.j ≡ (shelf a.replied.t).servers = omega (arith, c.before.before.servers-s.ensures.0) in
+    let n : c.before.loop-j.n ≡ count_to (shelf a.replied.t).servers p = c.before.loop-j.invariant.1 ∙ ap (λ (k : ℕ). count_to k p) e in
+    ap (λ (x : ℕ). ltb x (c.before.before.servers-s.result - a.replied.t)) n
+    ∙ ap (λ (x : ℕ). ltb (count_to (shelf a.replied.t).servers p) x) (quorum_of a.replied.t c.before.before.servers-s.result
     c.before.before.servers-s.ensures.1)
 
 pub stays_spec : {M : Type 1} → statement M

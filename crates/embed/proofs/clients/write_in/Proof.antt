@@ -17,8 +17,8 @@ returns c =
     let begun = at-begin-write-in in
     let a = at-start.args in
     let d = a.state.now in
-    let e = core_write_lem d at-start.requires a.t a.client a.content.now a.t5 in
-    began d at-start.requires (begin_write_def a.t a.client (call_at d) (kept_of_def d) a.content.now a.t5) begun.begin_write_in-begun.result
+    let e = core_write_lem d at-start.requires a.t a.client a.content.now a.nonce in
+    began d at-start.requires (begin_write_def a.t a.client (call_at d) (kept_of_def d) a.content.now a.nonce) begun.begin_write_in-begun.result
     begun.begin_write_in-begun.new.1.0 c.before.before.before.put_call.new.0
     (begun.begin_write_in-begun.ensures.0 ∙ rw at-begin-write-in.before.before.before.read-call.ensures
     (ap started e)) (begun.begin_write_in-begun.ensures.1 ∙ rw

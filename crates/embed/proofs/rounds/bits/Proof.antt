@@ -35,7 +35,7 @@ add-sum : tie.Need-overflow_add-sum invariant-loop decreases-loop
 add-sum c =
     let l = c.before.before.loop-i in
     let a = c.before.before.before.args in
-    omega (arith, added c, room c, l.invariant.1.0, l.invariant.1.1, bits_below l.i (marked a.t1))
+    omega (arith, added c, room c, l.invariant.1.0, l.invariant.1.1, bits_below l.i (marked a.marks))
 
 mul-bit : tie.Need-overflow_mul-bit invariant-loop decreases-loop
 mul-bit c = omega (arith, room c)
@@ -44,8 +44,8 @@ loop-again : tie.Need-loop-i-preserved invariant-loop decreases-loop
 loop-again c =
     let l = c.before.before.loop-i in
     let a = c.before.before.before.args in
-    let more = bits_more a.t1 l.i c.for_mark-sum.result
-    (c.for_mark-sum.ensures ∙ ap (λ (n : ℕ). cond (not (eqb (get_or a.t1 l.i 0) 0)) n 0) l.invariant.1.0) in
+    let more = bits_more a.marks l.i c.for_mark-sum.result
+    (c.for_mark-sum.ensures ∙ ap (λ (n : ℕ). cond (not (eqb (get_or a.marks l.i 0) 0)) n 0) l.invariant.1.0) in
     (omega arith, (omega (arith, l.invariant.1.0, power_more l.i), omega (arith, l.invariant.1.1, more)))
 
 returns : tie.Need-returns invariant-loop decreases-loop

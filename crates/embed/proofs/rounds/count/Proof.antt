@@ -30,13 +30,13 @@ add-sum : tie.Need-overflow_add-sum invariant-loop decreases-loop
 add-sum c =
     let l = c.before.before.loop-i in
     let a = c.before.before.before.args in
-    omega (arith, added c, l.invariant.0, l.invariant.1, count-le l.i (marked a.t1))
+    omega (arith, added c, l.invariant.0, l.invariant.1, count-le l.i (marked a.marks))
 
 loop-again : tie.Need-loop-i-preserved invariant-loop decreases-loop
 loop-again c =
     let l = c.before.before.loop-i in
     let a = c.before.before.before.args in
-    (omega arith, omega (arith, l.invariant.1, count_more a.t1 l.i c.for_mark-sum.result c.for_mark-sum.ensures))
+    (omega arith, omega (arith, l.invariant.1, count_more a.marks l.i c.for_mark-sum.result c.for_mark-sum.ensures))
 
 returns : tie.Need-returns invariant-loop decreases-loop
 returns c =

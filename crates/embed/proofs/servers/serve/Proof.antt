@@ -25,7 +25,7 @@ cast-pack c =
     let a = past-byte.before.before.before.before.before.args in
     let l = past-lent.lent-n in
     let t = past-take.take-o in
-    let n : t.result.count ≤ packet_room = served-count a.memory.now a.t2 a.packet.now a.out.now l.result l.ensures.0
+    let n : t.result.count ≤ packet_room = served-count a.memory.now a.key a.packet.now a.out.now l.result l.ensures.0
     l.ensures.1.0 l.ensures.1.1 t.result t.new.0 t.new.1.1.1.0 t.ensures t.auto.1.1.1.0 in
     omega (arith, n)
 
@@ -39,7 +39,7 @@ returns c =
     let a = past-known.before.args in
     let l = past-lent.lent-n in
     let t = past-take.take-o in
-    served-out a.memory.now a.t2 a.packet.now a.out.now l.result l.ensures.0 l.ensures.1.0 l.ensures.1.1 t.result
+    served-out a.memory.now a.key a.packet.now a.out.now l.result l.ensures.0 l.ensures.1.0 l.ensures.1.1 t.result
     t.new.0 t.new.1.1.1.0 t.ensures t.auto.1.1.1.0 (λ i. (past-known.slice_known-1.given i).fits) _ _
     (told_by a.memory.now t.new.0 _ _ _ past-byte.byte_at-writes.ensures past-rank.latest_rank-latest.ensures c.before.changed-result.ensures)
     c.pack.ensures

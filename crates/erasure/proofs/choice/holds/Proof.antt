@@ -25,9 +25,9 @@ returns c =
     let args = c.before.before.before.args in
     let j = c.before.before.loop-j.j in
     let h : j < args.count = search rules in
-    let l : length args.t1 ≡ width = search rules in
-    let full : length (take args.count args.t1) ≡ args.count = length-take-le args.count args.t1 (omega arith) in
-    sym (among-found args.s (take args.count args.t1) j (omega arith) (get_or-take args.count args.t1 j 0 h ∙ c.if-servers-j.true))
+    let l : length args.servers ≡ width = search rules in
+    let full : length (take args.count args.servers) ≡ args.count = length-take-le args.count args.servers (omega arith) in
+    sym (among-found args.s (take args.count args.servers) j (omega arith) (get_or-take args.count args.servers j 0 h ∙ c.if-servers-j.true))
 
 loop-again : tie.Need-loop-j-preserved invariant-loop decreases-loop
 loop-again c = (search rules, below_more _ _ c.before.before.loop-j.invariant.1 c.if-servers-j.false)
@@ -35,10 +35,10 @@ loop-again c = (search rules, below_more _ _ c.before.before.loop-j.invariant.1 
 returns-2 : tie.Need-returns invariant-loop decreases-loop
 returns-2 c =
     let args = c.before.before.args in
-    let l : length args.t1 ≡ width = search rules in
-    let full : length (take args.count args.t1) ≡ args.count = length-take-le args.count args.t1 (omega arith) in
-    sym (among_none args.s (take args.count args.t1)
-    (λ i h e. let b : i < args.count = omega arith in c.before.loop-j.invariant.1 i (omega arith) (sym (get_or-take args.count args.t1 i 0 b) ∙ e)))
+    let l : length args.servers ≡ width = search rules in
+    let full : length (take args.count args.servers) ≡ args.count = length-take-le args.count args.servers (omega arith) in
+    sym (among_none args.s (take args.count args.servers)
+    (λ i h e. let b : i < args.count = omega arith in c.before.loop-j.invariant.1 i (omega arith) (sym (get_or-take args.count args.servers i 0 b) ∙ e)))
 
 pub holds_spec : {M : Type 1} → statement M
 holds_spec = tie.close (tie.spec invariant-loop decreases-loop loop-holds (λ c. search rules) returns (λ c. search rules) (λ c. search rules) loop-again returns-2)

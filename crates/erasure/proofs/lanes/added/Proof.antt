@@ -29,10 +29,10 @@ loop-again c = (search rules, filled_more c.before.loop-i.invariant.1 (omega ari
 returns : tie.Need-returns invariant-loop decreases-loop
 returns c i h =
     let args = c.before.before.before.args in
-    let x = get_or args.t2 i 0 in
+    let x = get_or args.x i 0 in
     let f : Fits w8 x = search rules in
     c.before.loop-i.invariant.1.each i (omega arith)
-    ∙ ap (bit_xor (get_or args.t1 i 0)) (ap (bit_and x) c.before.before.mask-m.ensures ∙ masked (bit_of args.w args.b) x
+    ∙ ap (bit_xor (get_or args.sum i 0)) (ap (bit_and x) c.before.before.mask-m.ensures ∙ masked (bit_of args.w args.b) x
     (bit-lt args.w args.b) f.fits)
 
 pub added_spec : {M : Type 1} → statement M

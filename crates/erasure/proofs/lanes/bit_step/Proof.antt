@@ -28,7 +28,7 @@ loop-again c =
     let l = c.before.before.before.loop-j in
     let args = at-doubled.before.args in
     let begun = at-doubled.doubled-out.result in
-    let term : ℕ → ℕ → ℕ = λ i m. bit_of (get_or args.t3 m 0) args.b * entry args.lanes.now m i in (
+    let term : ℕ → ℕ → ℕ = λ i m. bit_of (get_or args.weights m 0) args.b * entry args.lanes.now m i in (
       search rules,
       λ i h.
           c.added-more.ensures i h
@@ -41,7 +41,7 @@ returns : tie.Need-returns invariant-loop decreases-loop
 returns c i h =
     let l = c.before.loop-j in
     let args = c.before.before.before.args in
-    let term : ℕ → ℕ = λ m. bit_of (get_or args.t3 m 0) args.b * entry args.lanes.now m i in
+    let term : ℕ → ℕ = λ m. bit_of (get_or args.weights m 0) args.b * entry args.lanes.now m i in
     l.invariant.1 i h ∙ ap₂ (λ (x n : ℕ). bit_xor x (sum_to n term)) (c.before.before.doubled-out.ensures i h) (omega arith)
 
 pub bit_step_spec : {M : Type 1} → statement M

@@ -35,7 +35,7 @@ loop-again c =
     let src = args.src.now in (
       search rules,
       filled_more l.invariant.1 (omega arith) _ (λ i h. c.lane_at.ensures i h ∙ ap (λ (x : ℕ). get_or src x 0)
-          (add_assoc (get_or args.t3 l.j 0) args.q i)),
+          (add_assoc (get_or args.starts l.j 0) args.q i)),
     )
 
 returns : tie.Need-returns invariant-loop decreases-loop

@@ -23,7 +23,7 @@ loop-again c =
     let l = c.before.loop-i in
     let args = c.before.before.args in (
       search rules,
-      written_more args.out.now l.out args.at l.i (λ j. get_or args.t4 j 0) (get_or args.t4 l.i 0)
+      written_more args.out.now l.out args.at l.i (λ j. get_or args.x j 0) (get_or args.x l.i 0)
           (omega (arith, l.invariant.1.long)) refl l.invariant.1,
     )
 
@@ -31,7 +31,7 @@ returns : tie.Need-returns invariant-loop decreases-loop
 returns c =
     let l = c.before.loop-i in
     let args = c.before.before.args in
-    subst (λ (n : ℕ). RunWritten args.out.now l.out args.at n (λ j. get_or args.t4 j 0)) (omega arith) l.invariant.1
+    subst (λ (n : ℕ). RunWritten args.out.now l.out args.at n (λ j. get_or args.x j 0)) (omega arith) l.invariant.1
 
 pub store_spec : {M : Type 1} → statement M
 store_spec = tie.close (tie.spec invariant-loop decreases-loop loop-holds (λ c. search rules) (λ c. search rules) (λ c. search rules) (λ c. search rules)

@@ -27,10 +27,10 @@ loop-again : tie.Need-loop-c-preserved invariant-loop decreases-loop
 loop-again c =
     let at = c.before.before.loop-c in
     let args = c.before.before.before.args in
-    let x : Fits w8 (get_or args.t2 at.c 0) = search rules in (
+    let x : Fits w8 (get_or args.row at.c 0) = search rules in (
       search rules,
       filled_more at.invariant.1 (omega arith) _
-          (ap (bit_xor (get_or args.t1 at.c 0)) (c.mul.ensures ∙ times-comm (get_or args.t2 at.c 0) args.w x.fits (omega arith))),
+          (ap (bit_xor (get_or args.sum at.c 0)) (c.mul.ensures ∙ times-comm (get_or args.row at.c 0) args.w x.fits (omega arith))),
     )
 
 returns : tie.Need-returns invariant-loop decreases-loop

@@ -25,8 +25,8 @@ loop-holds c =
       search rules,
       search rules,
       λ j h.
-          sym (sum_to_one (λ i. times (get_or args.t2 i 0) (entry args.t1 i j)) ∙ ap (λ (x : ℕ). times x (entry args.t1 0 j)) start.requires.2
-          ∙ one-times (entry args.t1 0 j) (entry-byte system_row args.t1 start.well-formed.0.0 0 j start.well-formed.0.1.1)),
+          sym (sum_to_one (λ i. times (get_or args.powers i 0) (entry args.a i j)) ∙ ap (λ (x : ℕ). times x (entry args.a 0 j)) start.requires.2
+          ∙ one-times (entry args.a 0 j) (entry-byte system_row args.a start.well-formed.0.0 0 j start.well-formed.0.1.1)),
     )
 
 loop-again : tie.Need-loop-c-preserved invariant-loop decreases-loop
@@ -37,13 +37,13 @@ loop-again c =
       search rules,
       λ j h.
           c.add_row-more.ensures j h
-          ∙ sum_to_more at.c (λ i. times (get_or args.t2 i 0) (entry args.t1 i j)) (get_or at.sum j 0) _ (at.invariant.2 j h) refl,
+          ∙ sum_to_more at.c (λ i. times (get_or args.powers i 0) (entry args.a i j)) (get_or at.sum j 0) _ (at.invariant.2 j h) refl,
     )
 
 returns : tie.Need-returns invariant-loop decreases-loop
 returns c j h =
     let args = c.before.before.before.args in
-    c.before.loop-c.invariant.2 j h ∙ ap (λ (n : ℕ). sum_to n (λ i. times (get_or args.t2 i 0) (entry args.t1 i j))) (omega arith)
+    c.before.loop-c.invariant.2 j h ∙ ap (λ (n : ℕ). sum_to n (λ i. times (get_or args.powers i 0) (entry args.a i j))) (omega arith)
 
 pub sum_rows_spec : {M : Type 1} → statement M
 sum_rows_spec = tie.close (tie.spec invariant-loop decreases-loop (λ c. search rules) loop-holds (λ c. search rules) (λ c. search rules) (λ c. search rules)

@@ -28,7 +28,7 @@ loop-again c =
     let at-inverse = c.before.before.before.before.before in
     let at = c.before.before.before.loop-r in
     let args = at-inverse.before.before.args in
-    let pivot = get_or args.t1 args.p [] in
+    let pivot = get_or args.a args.p [] in
     let d = at-inverse.inverse-d.result in (
       search rules,
       filled_more at.invariant.1 (omega arith) _
@@ -41,8 +41,8 @@ returns c =
     let args = c.before.before.before.before.before.args in
     let unit = c.before.before.unit_row in
     let d = c.before.before.before.inverse-d in
-    subst (λ (x : ℕ). SystemTurned args.k args.t1 args.p x c.before.loop-r.out) d.ensures
-    (system_turned args.k args.t1 c.before.loop-r.out args.p d.result unit.result (search rules) (search rules) unit.ensures.0
+    subst (λ (x : ℕ). SystemTurned args.k args.a args.p x c.before.loop-r.out) d.ensures
+    (system_turned args.k args.a c.before.loop-r.out args.p d.result unit.result (search rules) (search rules) unit.ensures.0
     unit.ensures.1 (search rules) (search rules)
     (λ j h. c.before.loop-r.invariant.1.each j (omega arith)))
 

@@ -19,7 +19,7 @@ returns c =
       here = get_or-set_same sum.result args.p w.result 0 (search rules) ∙ w.ensures;
       there = λ j h ne.
           get_or-set_other sum.result args.p j w.result 0 ne ∙ sum.ensures j (omega arith)
-          ∙ ap (λ (u : ℕ). bit_xor (get_or args.t1 j 0) (times u (get_or args.pivot j 0))) w.ensures;
+          ∙ ap (λ (u : ℕ). bit_xor (get_or args.row j 0) (times u (get_or args.pivot j 0))) w.ensures;
     }
 
 pub turn_row_spec : {M : Type 1} → statement M
