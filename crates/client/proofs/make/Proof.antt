@@ -7,8 +7,8 @@ use Rattle.client.proofs.make.Tie as tie
 
 returns : tie.Need-returns
 returns c =
-    let a = c.before.before.before.before.before.before.args in
-    c.before.before.make_in.ensures ∙ core_make_lem a.party.t a.party.client a.server a.call a.kept.now a.out.now (search rules)
+    let a = c.args in
+    c.make_in.ensures ∙ core_make_lem a.party.t a.party.client a.server a.call a.kept.now a.out.now (search rules)
 
 pub make_spec : {M : Type 1} → statement M
 make_spec = tie.close (tie.spec (λ c κs. search rules) (λ c. search rules) returns)

@@ -5,13 +5,13 @@ use Rattle.cluster.proofs.outside.Statement.{statement}
 use Rattle.cluster.proofs.outside.Tie as tie
 
 returns : tie.Need-returns-then-x-lo
-returns c = let a = c.before.args in rw (lt-leb a.lo a.x (omega arith))
+returns c = let a = c.args in rw (lt-leb a.lo a.x (omega arith))
 
 returns-2 : tie.Need-returns-then-hi-x
-returns-2 c = let a = c.before.before.args in rw (le-leb a.lo a.x (omega arith), lt-leb a.x a.hi (omega arith))
+returns-2 c = let a = c.args in rw (le-leb a.lo a.x (omega arith), lt-leb a.x a.hi (omega arith))
 
 returns-3 : tie.Need-returns
-returns-3 c = let a = c.before.before.args in rw (le-leb a.lo a.x (omega arith), le-leb a.x a.hi (omega arith))
+returns-3 c = let a = c.args in rw (le-leb a.lo a.x (omega arith), le-leb a.x a.hi (omega arith))
 
 pub outside_spec : {M : Type 1} → statement M
 outside_spec = tie.close (tie.spec returns returns-2 returns-3)

@@ -42,18 +42,18 @@ module _ (c : tie.Else-n-ne0) where
   out = (start-from-else1 c).args.out.now
 
   not-refused : decide_refusal_def t (length kept) (length out) ≡ 0
-  not-refused = sym c.before.decide_refusal-n.ensures ∙ c.if-n-ne0.false
+  not-refused = sym c.decide_refusal-n.ensures ∙ c.if-n-ne0.false
 
   known : Usable t kept × (content_room ≤ length out)
   known = allowed t kept (length out) not-refused
 
   bytes : Bytes kept
-  bytes i = (c.before.before.before.shared_slice_known-1.given i).fits
+  bytes i = (c.shared_slice_known-1.given i).fits
 
 returns : tie.Need-returns-then-n-ne0
 returns c =
-    let a = c.before.before.before.before.args in
-    told (decided-refused a.t a.marks a.kept.now a.out.now c.before.decide_refusal-n.result c.before.decide_refusal-n.ensures
+    let a = c.args in
+    told (decided-refused a.t a.marks a.kept.now a.out.now c.decide_refusal-n.result c.decide_refusal-n.ensures
     c.if-n-ne0.true)
 
 top-requires : tie.Need-top-key-requires
@@ -62,7 +62,7 @@ top-requires c κs = (known c).0
 returns-2 : tie.Need-returns-then-key-le-BLANK_RANK
 returns-2 c =
     let p = c.before.before in
-    told (decided-blank (t p) (marks p) (kept p) (out p) (not-refused p) (bytes p) (omega (arith, c.if-key-le-BLANK_RANK.true, c.before.top-key.ensures)))
+    told (decided-blank (t p) (marks p) (kept p) (out p) (not-refused p) (bytes p) (omega (arith, c.if-key-le-BLANK_RANK.true, c.top-key.ensures)))
 
 find-requires : tie.Need-find-c-requires
 find-requires c κs = (known c.before.before).0
@@ -74,8 +74,8 @@ returns-3 c =
     let q = at_top.top-key.ensures in
     let n : first_proven (t p) (marks p) (kept p) (top_at (t p) (marks p) (kept p) (shelf (t p)).servers) (shelf (t p)).servers ≡ none =
     ap (λ (x : ℕ). first_proven (t p) (marks p) (kept p) x (shelf (t p)).servers) (sym q)
-    ∙ c.before.before.find-c.ensures.nothing c.if-server-eq0.true in
-    told (decided_none (t p) (marks p) (kept p) (out p) (not-refused p) (bytes p) (omega (arith, c.before.before.before.if-key-le-BLANK_RANK.false, q)) n)
+    ∙ c.find-c.ensures.nothing c.if-server-eq0.true in
+    told (decided_none (t p) (marks p) (kept p) (out p) (not-refused p) (bytes p) (omega (arith, c.if-key-le-BLANK_RANK.false, q)) n)
 
 -- a server was found
 some-server : (n : ℕ) → (n ≡ 0 → ⊥) → 1 ≤ n
@@ -83,7 +83,7 @@ some-server zero f = absurd (f refl)
 some-server (suc n) f = omega arith
 
 sub-rebuild : tie.Need-overflow_sub-server
-sub-rebuild c = omega (arith, some-server c.before.before.find-c.result.server c.if-server-eq0.false)
+sub-rebuild c = omega (arith, some-server c.find-c.result.server c.if-server-eq0.false)
 
 -- what was found, at the rank of the definition
 hit : (t : ℕ) (marks kept : List ℕ) (key : ℕ) (r : Choice) → key ≡ top_at t marks kept (shelf t).servers → ChoiceAs t marks kept key r →
@@ -97,11 +97,11 @@ rebuild-requires c κs =
     let at-else3 = c.before in
     let at_top = at-else3.before.before.before.before in
     let p = at_top.before in
-    let r = c.before.before.before.find-c.result in
+    let r = c.find-c.result in
     let top = at_top.top-key in
     let key = top_at (t p) (marks p) (kept p) (shelf (t p)).servers in
     let u = (known p).0 in
-    let k = hit (t p) (marks p) (kept p) top.result r top.ensures c.before.before.before.find-c.ensures c.before.if-server-eq0.false in (
+    let k = hit (t p) (marks p) (kept p) top.result r top.ensures c.find-c.ensures c.if-server-eq0.false in (
       u,
       hit-small (t p) (marks p) (kept p) u key r (r.server - 1) k,
       hit_full (t p) (marks p) (kept p) u key r (r.server - 1) k,
@@ -113,13 +113,13 @@ returns-4 : tie.Need-returns
 returns-4 c =
     let at = c.before.before.before.before in
     let p = at.before.before.before.before.before in
-    let r = at.before.before.find-c.result in
-    let top = at.before.before.before.before.top-key in
-    let k = hit (t p) (marks p) (kept p) top.result r top.ensures at.before.before.find-c.ensures at.if-server-eq0.false in
+    let r = at.find-c.result in
+    let top = at.top-key in
+    let k = hit (t p) (marks p) (kept p) top.result r top.ensures at.find-c.ensures at.if-server-eq0.false in
     let d = told (decided-found (t p) (marks p) (kept p) (out p) (not-refused p) (bytes p) (known p).0 r (r.server - 1)
-    (omega (arith, at.before.before.before.if-key-le-BLANK_RANK.false, top.ensures)) k) in
+    (omega (arith, at.if-key-le-BLANK_RANK.false, top.ensures)) k) in
     let e : r.server ≡ suc (r.server - 1) = omega (arith, some-server r.server at.if-server-eq0.false) in
-    let w = c.before.before.rebuild-count.ensures in
+    let w = c.rebuild-count.ensures in
     ((λ i. decision_answer (decisions.Found r.slot (e i) (w.0 i))) ∙ d.0, w.1 ∙ d.1)
 
 pub decide_spec : {M : Type 1} → statement M

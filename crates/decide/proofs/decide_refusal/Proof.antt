@@ -12,26 +12,26 @@ use Rattle.decide.proofs.decide_refusal.Statement.{statement}
 use Rattle.decide.proofs.decide_refusal.Tie as tie
 
 -- the tests that do not apply
-past₁ : (c : tie.Else-size-ne-KEPT) → eqb c.before.args.size kept_size ≡ true
-past₁ c = eq-eqb c.before.args.size kept_size c.if-size-ne-KEPT.false
+past₁ : (c : tie.Else-size-ne-KEPT) → eqb c.args.size kept_size ≡ true
+past₁ c = eq-eqb c.args.size kept_size c.if-size-ne-KEPT.false
 
-past₂ : (c : tie.Else-outside) → not (within 1 top_faults c.before.before.before.args.t) ≡ false
-past₂ c = sym c.before.outside.ensures ∙ c.if-outside.false
+past₂ : (c : tie.Else-outside) → not (within 1 top_faults c.args.t) ≡ false
+past₂ c = sym c.outside.ensures ∙ c.if-outside.false
 
 returns : tie.Need-returns-then-size-ne-KEPT
 unfolding decide_refusal_def
-returns c = rw (ne_eqb c.before.args.size kept_size c.if-size-ne-KEPT.true)
+returns c = rw (ne_eqb c.args.size kept_size c.if-size-ne-KEPT.true)
 
 returns-2 : tie.Need-returns-then-outside
 unfolding decide_refusal_def
-returns-2 c = rw (past₁ c.before.before, sym c.before.outside.ensures ∙ c.if-outside.true)
+returns-2 c = rw (past₁ c.before.before, sym c.outside.ensures ∙ c.if-outside.true)
 
 returns-3 : tie.Need-returns-then-room-lt-CONTENT_ROOM
 unfolding decide_refusal_def
 returns-3 c = rw (
   past₁ c.before.before.before,
   past₂ c.before,
-  lt-ltb c.before.before.before.before.args.room content_room
+  lt-ltb c.args.room content_room
       (omega arith),
 )
 
@@ -40,7 +40,7 @@ unfolding decide_refusal_def
 returns-4 c = rw (
   past₁ c.before.before.before,
   past₂ c.before,
-  le-ltb c.before.before.before.before.args.room content_room
+  le-ltb c.args.room content_room
       (omega arith),
 )
 

@@ -5,13 +5,13 @@ use Rattle.decide.proofs.is_usable.Statement.{statement}
 use Rattle.decide.proofs.is_usable.Tie as tie
 
 returns : tie.Need-returns-then-t-lt1
-returns c = few-faults c.before.args.t c.before.args.kept.now (omega arith)
+returns c = few-faults c.args.t c.args.kept.now (omega arith)
 
 returns-2 : tie.Need-returns-then-t-gt-TOP_FAULTS
-returns-2 c = many-faults c.before.before.args.t c.before.before.args.kept.now (omega arith)
+returns-2 c = many-faults c.args.t c.args.kept.now (omega arith)
 
 returns-3 : tie.Need-returns
-returns-3 c = by_size c.before.before.args.t c.before.before.args.kept.now (omega arith) (omega arith)
+returns-3 c = by_size c.args.t c.args.kept.now (omega arith) (omega arith)
 
 pub is_usable_spec : {M : Type 1} → statement M
 is_usable_spec = tie.close (tie.spec returns returns-2 returns-3)

@@ -13,35 +13,35 @@ use Rattle.decide.proofs.listed.Tie as tie
 
 returns : tie.Need-returns-then-not-is_usable
 unfolding listed_in
-returns c = rw (unusable c.before.is_usable.ensures c.if-not-is_usable.true)
+returns c = rw (unusable c.is_usable.ensures c.if-not-is_usable.true)
 
 servers-requires : tie.Need-servers-requires
-servers-requires c κs = (known c.before.is_usable.ensures c.if-not-is_usable.false).high
+servers-requires c κs = (known c.is_usable.ensures c.if-not-is_usable.false).high
 
 returns-2 : tie.Need-returns-then-i-servers
 unfolding listed_in
 returns-2 c =
-    let a = c.before.before.before.before.before.args in
+    let a = c.args in
     rw (
-      is-usable c.before.before.before.is_usable.ensures c.before.before.if-not-is_usable.false,
+      is-usable c.is_usable.ensures c.if-not-is_usable.false,
       le-ltb a.i (shelf a.t).servers
-          (omega (arith, c.before.servers.ensures.0)),
+          (omega (arith, c.servers.ensures.0)),
     )
 
 entry-requires : tie.Need-entry-requires
 entry-requires c κs =
-    let u = known c.before.before.before.is_usable.ensures c.before.before.if-not-is_usable.false in
-    (u, omega (arith, c.before.servers.ensures.1, u.high))
+    let u = known c.is_usable.ensures c.if-not-is_usable.false in
+    (u, omega (arith, c.servers.ensures.1, u.high))
 
 returns-3 : tie.Need-returns
 unfolding listed_in
 returns-3 c =
     let at-is-usable = c.before.before.before.before in
-    let a = at-is-usable.before.before.args in
+    let a = at-is-usable.args in
     rw (
-      is-usable at-is-usable.is_usable.ensures c.before.before.before.if-not-is_usable.false,
+      is-usable at-is-usable.is_usable.ensures c.if-not-is_usable.false,
       lt-ltb a.i
-          (shelf a.t).servers (omega (arith, c.before.before.servers.ensures.0)),
+          (shelf a.t).servers (omega (arith, c.servers.ensures.0)),
       c.entry.ensures,
     )
     (bit_one (enters (candidates_in (shelf a.t) a.kept.now) (suc a.i)))

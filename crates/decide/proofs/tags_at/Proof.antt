@@ -7,14 +7,14 @@ use Rattle.decide.proofs.tags_at.Statement.{statement}
 use Rattle.decide.proofs.tags_at.Tie as tie
 
 add-result : tie.Need-overflow_add-result
-add-result c = omega (arith, c.fragment_size.ensures, fragment-few c.before.args.t c.before.args.n)
+add-result c = omega (arith, c.fragment_size.ensures, fragment-few c.args.t c.args.n)
 
 add-result-2 : tie.Need-overflow_add-result-2
 unfolding shelf
 add-result-2 c = omega (
   arith,
-  c.before.fragment_size.ensures,
-  fragment-few c.before.before.args.t c.before.before.args.n,
+  c.fragment_size.ensures,
+  fragment-few c.args.t c.args.n,
   c.digests_size.ensures,
 )
 
@@ -22,13 +22,13 @@ add-result-3 : tie.Need-overflow_add-result-3
 unfolding shelf
 add-result-3 c = omega (
   arith,
-  c.before.fragment_size.ensures,
-  fragment-few c.before.before.args.t c.before.before.args.n,
+  c.fragment_size.ensures,
+  fragment-few c.args.t c.args.n,
   c.digests_size.ensures,
 )
 
 returns : tie.Need-returns
-returns c = rw (c.digests_size.ensures, c.before.fragment_size.ensures)
+returns c = rw (c.digests_size.ensures, c.fragment_size.ensures)
 
 pub tags_at_spec : {M : Type 1} → statement M
 tags_at_spec = tie.close (tie.spec (λ c κs. search rules) add-result (λ c κs. search rules) add-result-2 add-result-3 returns)

@@ -18,16 +18,16 @@ use Rattle.erasure.proofs.fragment.Tie as tie
 
 module _ (c : tie.Else-number-ne0) where
   abbrev t : ℕ
-  t = c.before.before.before.args.t
+  t = c.args.t
 
   abbrev server : ℕ
-  server = c.before.before.before.args.server
+  server = c.args.server
 
   abbrev content : List ℕ
-  content = c.before.before.before.args.content.now
+  content = c.args.content.now
 
   none_applies : fragment_refusal_def t server (length content) ≡ 0
-  none_applies = sym c.before.fragment_refusal-number.ensures ∙ c.if-number-ne0.false
+  none_applies = sym c.fragment_refusal-number.ensures ∙ c.if-number-ne0.false
 
   ok : Makes t server (length content)
   ok = makes t server (length content) none_applies
@@ -37,18 +37,18 @@ module _ (c : tie.After-servers_of-s) where
   abbrev past : tie.Else-number-ne0
   past = c.before.before
 
-  table : Lent (t past) c.servers_of-s.result c.before.numbered-points.result
+  table : Lent (t past) c.servers_of-s.result c.numbered-points.result
   table =
-      lent (t past) c.servers_of-s.result c.before.numbered-points.result (ok past).faults c.servers_of-s.ensures
-      c.before.numbered-points.ensures
+      lent (t past) c.servers_of-s.result c.numbered-points.result (ok past).faults c.servers_of-s.ensures
+      c.numbered-points.ensures
 
 -- ---- the needs
 
 returns : tie.Need-returns-then-number-ne0
 returns c =
-    let args = c.before.before.before.before.args in
-    let r = c.before.before.fragment_refusal-number in
-    sym (make-refused args.t args.server args.content.now r.result r.ensures c.before.if-number-ne0.true
+    let args = c.args in
+    let r = c.fragment_refusal-number in
+    sym (make-refused args.t args.server args.content.now r.result r.ensures c.if-number-ne0.true
     ∙ ap (λ (b : List ℕ). record { number = r.result; count = 0; bytes = b }) (sym c.blank.ensures))
 
 servers-of-requires : tie.Need-servers_of-s-requires
@@ -65,19 +65,19 @@ size-requires : tie.Need-size-f-requires
 size-requires c κs = let r = ok (past c.before) in (omega (arith, threshold-are c), omega (arith, threshold-are c, r.faults.1), r.bytes)
 
 part_end : tie.Need-slice_bounds-make-end
-part_end c = (table c.before.before.before).enough
+part_end c = (table c.before.before).enough
 
 size-most : (c : tie.After-size-f) → c.size-f.result ≤ fragment_room
 size-most c =
     let r = ok (past c.before.before) in
     subst (λ (x : ℕ). x ≤ fragment_room) (sym c.size-f.ensures)
-    (size_fits c.before.threshold_of-k.result (length (content (past c.before.before)))
+    (size_fits c.threshold_of-k.result (length (content (past c.before.before)))
     (omega (arith, threshold-are c.before, r.faults.0)) r.bytes)
 
 make-requires : tie.Need-make-bytes-requires
 unfolding shelf
 make-requires c κs =
-    let at_size = c.before.before in
+    let at_size = c.before in
     let k = threshold-are at_size.before in
     let points = table at_size.before.before in
     let r = ok (past at_size.before.before) in (
@@ -94,10 +94,10 @@ make-requires c κs =
 returns-2 : tie.Need-returns
 returns-2 c =
     let at_size = c.before.before.before in
-    let at = at_size.before.before in
+    let at = at_size.before in
     let p = past at in
     let size = at_size.size-f in
-    let k-is = at_size.before.threshold_of-k.ensures in
+    let k-is = at_size.threshold_of-k.ensures in
     let made : List ℕ → ℕ → ℕ → FragmentOutcome = λ l k f. record {
       number = 0;
       count = f;

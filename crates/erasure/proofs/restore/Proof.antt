@@ -45,7 +45,7 @@ module _ (c : tie.Else-number-ne0) where
   out = (start-from-else1 c).args.out.now
 
   none_applies : first_of (argument_checks t n servers (length fragments) (length out)) ≡ 0
-  none_applies = sym c.before.restore_refusal-number.ensures ∙ c.if-number-ne0.false
+  none_applies = sym c.restore_refusal-number.ensures ∙ c.if-number-ne0.false
 
   ok : Restores t n servers (length fragments) (length out)
   ok = restores t n servers (length fragments) (length out) none_applies
@@ -61,7 +61,7 @@ module _ (c : tie.After-select-c) where
   past = c.before.before
 
   abbrev k : ℕ
-  k = c.before.threshold_of-k.result
+  k = c.threshold_of-k.result
 
   abbrev chosen : Chosen
   chosen = c.select-c.result
@@ -106,20 +106,20 @@ module _ (c : tie.After-servers_of-s) where
   full : k select ≤ (chosen select).count
   full = search rules
 
-  table : Lent (t (past select)) c.servers_of-s.result c.before.numbered-points.result
-  table = lent (t (past select)) c.servers_of-s.result c.before.numbered-points.result (ok (past select)).faults c.servers_of-s.ensures
-      c.before.numbered-points.ensures
+  table : Lent (t (past select)) c.servers_of-s.result c.numbered-points.result
+  table = lent (t (past select)) c.servers_of-s.result c.numbered-points.result (ok (past select)).faults c.servers_of-s.ensures
+      c.numbered-points.ensures
 
 -- ---- the needs
 
 returns : tie.Need-returns-then-number-ne0
 returns c =
-    let args = c.before.before.before.before.before.before.args in
-    let r = c.before.before.restore_refusal-number in
+    let args = c.args in
+    let r = c.restore_refusal-number in
     let servers = args.servers.now in
     let fragments = args.fragments.now in
     let out = args.out.now in
-    let taken = c.before.if-number-ne0.true in
+    let taken = c.if-number-ne0.true in
     rw c.refused.ensures (sym (restore-refused args.t args.length servers fragments out r.result
     (refused_arguments args.t args.length servers fragments out r.result r.ensures taken) taken))
 
@@ -137,8 +137,8 @@ returns-2 c =
     let at = c.before.before in
     let p = past at in
     let few : length (first_different (shelf (t p)).threshold (servers p)) < (shelf (t p)).threshold =
-    subst (λ (x : ℕ). length (first_different x (servers p)) < x) at.before.threshold_of-k.ensures
-    (omega (arith, counted_is at, c.before.if-count-k.true)) in
+    subst (λ (x : ℕ). length (first_different x (servers p)) < x) at.threshold_of-k.ensures
+    (omega (arith, counted_is at, c.if-count-k.true)) in
     rw c.refused-then-count-k.ensures (sym (restore-refused (t p) (n p) (servers p) (fragments p) (out p) 16
     (refused-few (t p) (n p) (servers p) (fragments p) (out p) (none_applies p) few) (suc-ne-zero 15)))
 
@@ -146,7 +146,7 @@ servers-of-requires : tie.Need-servers_of-s-requires
 servers-of-requires c κs = (ok (past c.before.before)).faults.1
 
 part_end : tie.Need-slice_bounds-rebuild-end
-part_end c = (table c.before).enough
+part_end c = (table c).enough
 
 size-requires : tie.Need-size-requires
 size-requires c κs =
@@ -155,7 +155,7 @@ size-requires c κs =
 
 -- Places far back, each named once: the place, and from where it is seen.
 abbrev servers-of-from-size : tie.After-size → tie.After-servers_of-s
-servers-of-from-size c = c.before.before.before
+servers-of-from-size c = c.before.before
 
 rebuild-requires : tie.Need-rebuild-requires
 unfolding shelf
@@ -163,7 +163,7 @@ rebuild-requires c κs =
     let at = servers-of-from-size c.before in
     let s = select at in
     let p = past s in
-    let size = c.before.size in
+    let size = c.size in
     let all = all-chosen s (full at) in
     let f : size.result ≡ fragment_size_def (shelf (t p)).threshold (n p) = size.ensures ∙ ap (λ (x : ℕ). fragment_size_def x (n p))
     s.before.threshold-of.ensures in (
@@ -190,7 +190,7 @@ returns-3 c =
     let s = select at in
     let p = past s in
     let size = at_size.size in
-    let points = take (at.servers_of-s.result - 0) at.before.numbered-points.result in
+    let points = take (at.servers_of-s.result - 0) at.numbered-points.result in
     let enough : (shelf (t p)).threshold ≤ length (first_different (shelf (t p)).threshold (servers p)) =
     subst (λ (x : ℕ). x ≤ length (first_different x (servers p))) s.before.threshold-of.ensures (omega (arith, counted_is s, full at)) in
     let made : ℕ → ℕ → List ℕ = λ x y. rebuilt_of x y (n p) points (map (point_of points) (chosen s).servers) (fragments p)
@@ -202,7 +202,7 @@ returns-3 c =
     ∙ ap₂ (λ (l : List ℕ) (x : ℕ). restored l x (n p) (parts_at (fragment_size_def x (n p)) (servers p) (fragments p) (first_different x (servers p))))
     (table at).points s.before.threshold-of.ensures in
     ap (λ (l : List ℕ). (record { number = 0; count = n p }, l))
-    (c.before.before.rebuild.ensures ∙ ap (λ (l : List ℕ). l ++ drop (n p) (out p)) bytes)
+    (c.rebuild.ensures ∙ ap (λ (l : List ℕ). l ++ drop (n p) (out p)) bytes)
     ∙ sym (restore-accepted (t p) (n p) (servers p) (fragments p) (out p) (refused_none (t p) (n p) (servers p) (fragments p) (out p) (none_applies p)
     enough))
 

@@ -36,7 +36,7 @@ module _ (c : tie.Else-number-ne0) where
   out = (start-from-else1 c).args.out.now
 
   none_applies : weighed_refusal_def t n (length fragments) (length out) ≡ 0
-  none_applies = sym c.before.weighed_refusal-number.ensures ∙ c.if-number-ne0.false
+  none_applies = sym c.weighed_refusal-number.ensures ∙ c.if-number-ne0.false
 
   ok : Sums t n (length fragments) (length out)
   ok = sums t n (length fragments) (length out) none_applies
@@ -47,10 +47,10 @@ threshold-are c = c.threshold_of-k.ensures
 
 returns : tie.Need-returns-then-number-ne0
 returns c =
-    let args = c.before.before.before.before.before.args in
-    let r = c.before.before.weighed_refusal-number in
+    let args = c.args in
+    let r = c.weighed_refusal-number in
     rw c.refused.ensures (sym (weighed-refused args.t args.length args.rows args.fragments.now args.out.now
-    r.result r.ensures c.before.if-number-ne0.true))
+    r.result r.ensures c.if-number-ne0.true))
 
 threshold-of-requires : tie.Need-threshold_of-k-requires
 threshold-of-requires c κs = (ok c).faults.1
@@ -63,7 +63,7 @@ rebuild-weighed-requires c κs =
     let at-threshold = c.before.before in
     let p = at-threshold.before in
     let k = at-threshold.threshold_of-k in
-    let size = c.before.size in
+    let size = c.size in
     let is = threshold-are at-threshold in (
       omega (arith, is, (ok p).faults.1),
       size.ensures,
@@ -79,7 +79,7 @@ returns-2 c =
     let at-threshold = c.before.before.before.before.before in
     let p = at-threshold.before in
     ap (λ (l : List ℕ). (record { number = 0; count = n p }, l))
-    (c.before.before.rebuild_weighed.ensures
+    (c.rebuild_weighed.ensures
     ∙ ap (λ (x : ℕ). weighed_bytes x (n p) (rows p) (fragments p) ++ drop (n p) (out p)) at-threshold.threshold_of-k.ensures)
     ∙ sym (weighed-accepted (t p) (n p) (rows p) (fragments p) (out p) (none_applies p))
 

@@ -33,7 +33,7 @@ module _ (c : tie.Else-number-ne0) where
   servers = (start-from-else1 c).args.servers.now
 
   none_applies : first_of (weights_checks t servers) ≡ 0
-  none_applies = sym c.before.weights_refusal-number.ensures ∙ c.if-number-ne0.false
+  none_applies = sym c.weights_refusal-number.ensures ∙ c.if-number-ne0.false
 
   ok : Named t servers
   ok = named t servers none_applies
@@ -49,7 +49,7 @@ module _ (c : tie.After-select-c) where
   past = c.before.before
 
   abbrev k : ℕ
-  k = c.before.threshold_of-k.result
+  k = c.threshold_of-k.result
 
   abbrev chosen : Chosen
   chosen = c.select-c.result
@@ -91,20 +91,20 @@ module _ (c : tie.After-servers_of-s) where
   full : k select ≤ (chosen select).count
   full = search rules
 
-  table : Lent (t (past select)) c.servers_of-s.result c.before.numbered-points.result
-  table = lent (t (past select)) c.servers_of-s.result c.before.numbered-points.result (ok (past select)).faults c.servers_of-s.ensures
-      c.before.numbered-points.ensures
+  table : Lent (t (past select)) c.servers_of-s.result c.numbered-points.result
+  table = lent (t (past select)) c.servers_of-s.result c.numbered-points.result (ok (past select)).faults c.servers_of-s.ensures
+      c.numbered-points.ensures
 
 -- ---- the needs
 
 returns : tie.Need-returns-then-number-ne0
 returns c =
-    let args = c.before.before.before.before.args in
-    let r = c.before.before.weights_refusal-number in
+    let args = c.args in
+    let r = c.weights_refusal-number in
     let servers = args.servers.now in
     c.no_weights.ensures
-    ∙ sym (weights-refused args.t servers r.result (refused-servers args.t servers r.result r.ensures c.before.if-number-ne0.true)
-    c.before.if-number-ne0.true)
+    ∙ sym (weights-refused args.t servers r.result (refused-servers args.t servers r.result r.ensures c.if-number-ne0.true)
+    c.if-number-ne0.true)
 
 threshold-of-requires : tie.Need-threshold_of-k-requires
 threshold-of-requires c κs = (ok c).faults.1
@@ -120,20 +120,20 @@ returns-2 c =
     let at = c.before.before in
     let p = past at in
     let few : length (first_different (shelf (t p)).threshold (servers p)) < (shelf (t p)).threshold =
-    subst (λ (x : ℕ). length (first_different x (servers p)) < x) at.before.threshold_of-k.ensures
-    (omega (arith, counted_is at, c.before.if-count-k.true)) in
+    subst (λ (x : ℕ). length (first_different x (servers p)) < x) at.threshold_of-k.ensures
+    (omega (arith, counted_is at, c.if-count-k.true)) in
     c.no_weights-then-count-k.ensures ∙ sym (weights-refused (t p) (servers p) 16 (refused_as-few (t p) (servers p) (none_applies p) few) (suc-ne-zero 15))
 
 servers-of-requires : tie.Need-servers_of-s-requires
 servers-of-requires c κs = (ok (past c.before.before)).faults.1
 
 part_end : tie.Need-slice_bounds-of_chosen-end
-part_end c = (table c.before).enough
+part_end c = (table c).enough
 
 of-chosen-requires : tie.Need-of_chosen-rows-requires
 unfolding shelf
 of-chosen-requires c κs =
-    let at = c.before.before in
+    let at = c.before in
     let s = select at in
     let all = all-chosen s (full at) in (
       omega (arith, all, k-is s),
@@ -147,16 +147,16 @@ of-chosen-requires c κs =
     )
 
 used-requires : tie.Need-used-requires
-used-requires c κs = let at = c.before.before.before in let s = select at in omega (arith, all-chosen s (full at), k-most s)
+used-requires c κs = let at = c.before.before in let s = select at in omega (arith, all-chosen s (full at), k-most s)
 
 returns-3 : tie.Need-returns
 unfolding used_servers used_weights
 returns-3 c =
     let at-of-chosen = c.before in
-    let at = at-of-chosen.before.before.before in
+    let at = at-of-chosen.before.before in
     let s = select at in
     let p = past s in
-    let points = take (at.servers_of-s.result - 0) at.before.numbered-points.result in
+    let points = take (at.servers_of-s.result - 0) at.numbered-points.result in
     let threshold : k s ≡ (shelf (t p)).threshold = s.before.threshold-of.ensures in
     let enough : (shelf (t p)).threshold ≤ length (first_different (shelf (t p)).threshold (servers p)) =
     subst (λ (x : ℕ). x ≤ length (first_different x (servers p))) threshold (omega (arith, counted_is s, full at)) in

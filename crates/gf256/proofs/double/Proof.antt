@@ -10,7 +10,7 @@ use Rattle.gf256.proofs.double.Tie as tie
 
 returns : tie.Need-returns
 returns c =
-    let a = c.before.args.a in
+    let a = c.args.a in
     ap (λ (m : ℕ). bit_xor (a * 2 % 256) (bit_and m 27)) c.mask.ensures ∙ double_all a (omega arith)
 
 pub double_spec : {M : Type 1} → statement M

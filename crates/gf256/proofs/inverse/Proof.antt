@@ -13,8 +13,8 @@ returns c = sym (ap inverse c.if-a-eq0.true ∙ inverse-zero)
 returns-2 : tie.Need-returns
 returns-2 c =
     c.power_of.ensures
-    ∙ inverse_of-log c.before.before.before.args.a c.before.log_of.result (omega arith) (omega arith) c.before.log_of.ensures.0
-    c.before.log_of.ensures.1
+    ∙ inverse_of-log c.args.a c.log_of.result (omega arith) (omega arith) c.log_of.ensures.0
+    c.log_of.ensures.1
 
 pub inverse_spec : {M : Type 1} → statement M
 inverse_spec = tie.close (tie.spec returns (λ c κs. search rules) (λ c. search rules) (λ c κs. search rules) returns-2)

@@ -23,15 +23,15 @@ loop-holds c = (search rules, refl)
 
 loop-again : tie.Need-loop-n-preserved invariant-loop decreases-loop
 loop-again c =
-    let l = c.before.before.before.loop-n in
-    let args = c.before.before.before.before.args in
+    let l = c.loop-n in
+    let args = c.args in
     let i : ℕ = 7 - l.n in
     let up : i + 1 ≡ 8 - l.n = omega arith in
     let down : i ≡ 8 - (l.n + 1) = omega arith in
     let x = args.a in
     let w = args.b in (
       search rules,
-      ap₂ bit_xor (c.before.double.ensures ∙ ap xtime (l.invariant.1 ∙ ap (λ (m : ℕ). times_bits l.n x (w / 2 ^ m)) (sym up)))
+      ap₂ bit_xor (c.double.ensures ∙ ap xtime (l.invariant.1 ∙ ap (λ (m : ℕ). times_bits l.n x (w / 2 ^ m)) (sym up)))
           (ap (bit_and x) c.mask.ensures ∙ masked (w / 2 ^ i % 2) x (bit (w / 2 ^ i)) (omega arith))
           ∙ bit_more l.n x w i (omega arith)
           ∙ ap (λ (m : ℕ). times_bits (l.n + 1) x (w / 2 ^ m)) down,
@@ -40,8 +40,8 @@ loop-again c =
 returns : tie.Need-returns invariant-loop decreases-loop
 unfolding times
 returns c =
-    let l = c.before.loop-n in
-    let args = c.before.before.args in
+    let l = c.loop-n in
+    let args = c.args in
     let e : l.n ≡ 8 = omega arith in
     subst (λ (n : ℕ). l.out ≡ times_bits n args.a (args.b / 2 ^ (8 - n))) e l.invariant.1 ∙ ap (times_bits 8 args.a) (div-one args.b)
 

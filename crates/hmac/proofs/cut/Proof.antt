@@ -24,15 +24,15 @@ loop-less c = search rules
 
 loop-again : tie.Need-loop-i-preserved invariant-loop decreases-loop
 loop-again c =
-    let at = c.before.loop-i in (
+    let at = c.loop-i in (
       omega arith,
       simp length-set at.invariant.1,
-      copy_more at.i c.before.before.args.full at.out (omega arith) (omega arith) at.invariant.2,
+      copy_more at.i c.args.full at.out (omega arith) (omega arith) at.invariant.2,
     )
 
 returns : tie.Need-returns invariant-loop decreases-loop
 returns c =
-    let at = c.before.loop-i in
+    let at = c.loop-i in
     let e : at.i ≡ tag_size = omega arith in
     sym (take_all tag_size at.out (omega arith)) ∙ rw e at at.invariant.2
 

@@ -5,7 +5,7 @@ use Rattle.hmac.proofs.hmac.Statement.{statement}
 use Rattle.hmac.proofs.hmac.Tie as tie
 
 returns : tie.Need-returns
-returns c = cc (prepared-hmac c.before.before.before.args.key c.before.before.before.args.m.now)
+returns c = cc (prepared-hmac c.args.key c.args.m.now)
 
 pub hmac_spec : {M : Type 1} → statement M
 hmac_spec = tie.close (tie.spec (λ c κs. search rules) (λ c κs. search rules) returns)

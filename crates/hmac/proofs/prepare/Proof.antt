@@ -10,7 +10,7 @@ use Rattle.hmac.proofs.prepare.Tie as tie
 returns : tie.Need-returns
 unfolding prepared_of
 returns c =
-    let key = c.before.before.before.before.args.key in
+    let key = c.args.key in
     let e : key_block key ≡ key = short-key key (search rules) in
     cc
 

@@ -9,7 +9,7 @@ use Rattle.hmac.proofs.prepared_tag_with.Tie as tie
 
 returns : tie.Need-returns
 unfolding prepared_tag
-returns c = c.cut.ensures ∙ ap (take tag_size) c.before.prepared_hmac_with.ensures
+returns c = c.cut.ensures ∙ ap (take tag_size) c.prepared_hmac_with.ensures
 
 pub prepared_tag_with_spec : {M : Type 1} → statement M
 prepared_tag_with_spec = tie.close (tie.spec (λ c κs. search rules) (λ c κs. search rules) returns)

@@ -6,7 +6,7 @@ use Rattle.hmac.proofs.tag_with.Statement.{statement}
 use Rattle.hmac.proofs.tag_with.Tie as tie
 
 returns : tie.Need-returns
-returns c = let a = c.before.before.before.args in cc (prepared-tag a.key (a.m.now ++ a.d))
+returns c = let a = c.args in cc (prepared-tag a.key (a.m.now ++ a.d))
 
 pub tag_with_spec : {M : Type 1} → statement M
 tag_with_spec = tie.close (tie.spec (λ c κs. search rules) (λ c κs. search rules) returns)

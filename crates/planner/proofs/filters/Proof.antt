@@ -34,16 +34,16 @@ start-from-servers c = c.before.before
 servers-few : (c : tie.After-servers-most invariant-loop decreases-loop) → c.servers-most.result ≤ most_servers
 servers-few c = omega (arith, c.servers-most.ensures, servers-most _ (start-from-servers c).requires)
 
-candidate-few : (c : tie.After-servers-most invariant-loop decreases-loop) → c.before.candidate_size-candidate.result ≤ plenty
-candidate-few c = omega (arith, c.before.candidate_size-candidate.ensures, candidate-most _ (start-from-servers c).requires)
+candidate-few : (c : tie.After-servers-most invariant-loop decreases-loop) → c.candidate_size-candidate.result ≤ plenty
+candidate-few c = omega (arith, c.candidate_size-candidate.ensures, candidate-most _ (start-from-servers c).requires)
 
 -- in the loop the count is S at most
-count-few : (c : tie.In-loop-count invariant-loop decreases-loop) → c.before.loop-count.count ≤ most_servers
+count-few : (c : tie.In-loop-count invariant-loop decreases-loop) → c.loop-count.count ≤ most_servers
 count-few c =
-    let l : c.before.loop-count.count ≤ c.before.before.servers-most.result = search rules in
+    let l : c.loop-count.count ≤ c.servers-most.result = search rules in
     omega (arith, l, servers-few c.before.before)
 
-product : (c : tie.In-loop-count invariant-loop decreases-loop) → c.before.loop-count.count * c.before.before.before.candidate_size-candidate.result ≤ plenty * plenty
+product : (c : tie.In-loop-count invariant-loop decreases-loop) → c.loop-count.count * c.candidate_size-candidate.result ≤ plenty * plenty
 product c = product-most _ _ (omega (arith, count-few c)) (candidate-few c.before.before)
 
 mul-out : tie.Need-overflow_mul-out invariant-loop decreases-loop
@@ -63,29 +63,29 @@ array-write-out c = omega (arith, count-few c)
 
 loop-again : tie.Need-loop-count-preserved invariant-loop decreases-loop
 loop-again c =
-    let l = c.before.loop-count in
+    let l = c.loop-count in
     let few = count-few c in (
       search rules,
       filled_more l.invariant.1 (omega (arith, few)) _ refl,
       λ i h b. get_or-set_other l.out l.count i _ 0 (λ e. omega arith) ∙ l.invariant.2 i (omega arith) b,
     )
 
-at : (c : tie.After-loop-count invariant-loop decreases-loop) (i : ℕ) → i < most_servers + 1 → Dec (i ≤ c.before.before.servers-most.result)
-    → get_or c.before.loop-count.out i 0 ≡ filter_size (shelf (start-from-servers c.before.before).args.t) i
+at : (c : tie.After-loop-count invariant-loop decreases-loop) (i : ℕ) → i < most_servers + 1 → Dec (i ≤ c.servers-most.result)
+    → get_or c.loop-count.out i 0 ≡ filter_size (shelf (start-from-servers c.before.before).args.t) i
 at c i b (yes h) =
     let at-servers = c.before.before in
-    c.before.loop-count.invariant.1.each i (omega (arith, c.before.loop-count.invariant.0))
-    ∙ ap (λ (n : ℕ). head_size + (1 + i * n)) at-servers.before.candidate_size-candidate.ensures
+    c.loop-count.invariant.1.each i (omega (arith, c.loop-count.invariant.0))
+    ∙ ap (λ (n : ℕ). head_size + (1 + i * n)) at-servers.candidate_size-candidate.ensures
     ∙ sym (filter-fits (shelf (start-from-servers at-servers).args.t) i (omega (arith, at-servers.servers-most.ensures)))
 at c i b (no h) =
     let at-servers = c.before.before in
-    c.before.loop-count.invariant.2 i (omega (arith, c.before.loop-count.invariant.0)) b
+    c.loop-count.invariant.2 i (omega (arith, c.loop-count.invariant.0)) b
     ∙ sym (filter_none (shelf (start-from-servers at-servers).args.t) i (omega (arith, at-servers.servers-most.ensures)))
 
 returns : tie.Need-returns invariant-loop decreases-loop
 returns c =
-    table_is (most_servers + 1) c.before.loop-count.out (filter_size (shelf (start-from-servers c.before.before).args.t))
-    c.before.loop-count.invariant.1.size (λ i b. at c i b (dec_le i c.before.before.servers-most.result))
+    table_is (most_servers + 1) c.loop-count.out (filter_size (shelf (start-from-servers c.before.before).args.t))
+    c.loop-count.invariant.1.size (λ i b. at c i b (dec_le i c.servers-most.result))
 
 pub filters_spec : {M : Type 1} → statement M
 filters_spec = tie.close (tie.spec invariant-loop decreases-loop (λ c κs. search rules) (λ c κs. search rules) loop-holds mul-out add-out add-out-2 mul-out-2

@@ -11,7 +11,7 @@ use Rattle.planner.proofs.held.Statement.{statement}
 use Rattle.planner.proofs.held.Tie as tie
 
 add-t5 : tie.Need-overflow_add-result
-add-t5 c = let p = c.before.requires in omega (arith, c.share_size.ensures, share-most _ _ p.0 p.1)
+add-t5 c = let p = c.requires in omega (arith, c.share_size.ensures, share-most _ _ p.0 p.1)
 
 returns : tie.Need-returns
 returns c = ap (λ (n : ℕ). (head_size + (stamp_size + 1)) ∷ n ∷ []) (omega (arith, c.share_size.ensures))

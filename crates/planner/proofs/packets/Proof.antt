@@ -11,12 +11,12 @@ use Rattle.planner.proofs.packets.Statement.{statement}
 use Rattle.planner.proofs.packets.Tie as tie
 
 few : (c : tie.After-servers-servers) → c.servers-servers.result ≤ most_servers
-few c = omega (arith, c.servers-servers.ensures, servers-most _ c.before.requires.0)
+few c = omega (arith, c.servers-servers.ensures, servers-most _ c.requires.0)
 
 -- a product with the readers
-times : (c : tie.After-servers-servers) (rounds : ℕ) → rounds ≤ 3 → c.before.args.readers * (rounds * c.servers-servers.result) ≤ plenty * plenty
+times : (c : tie.After-servers-servers) (rounds : ℕ) → rounds ≤ 3 → c.args.readers * (rounds * c.servers-servers.result) ≤ plenty * plenty
 times c rounds h =
-    let p : c.before.args.readers ≤ plenty = omega (arith, c.before.requires.1) in
+    let p : c.args.readers ≤ plenty = omega (arith, c.requires.1) in
     let q : rounds * c.servers-servers.result ≤ 3 * most_servers = mul-le-mul h (few c) in
     product-most _ _ p (omega (arith, q))
 
@@ -34,7 +34,7 @@ mul-repaired-2 c = omega (arith, times c 3 (omega arith))
 
 returns : tie.Need-returns
 returns c =
-    let r = c.before.args.readers in
+    let r = c.args.readers in
     ap (λ (n : ℕ). (3 * n) ∷ (3 * n) ∷ (r * (2 * n)) ∷ (r * (2 * n)) ∷ (r * (3 * n)) ∷ (r * (3 * n)) ∷ []) c.servers-servers.ensures
 
 pub packets_spec : {M : Type 1} → statement M

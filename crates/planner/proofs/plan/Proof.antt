@@ -13,19 +13,19 @@ use Rattle.planner.proofs.plan.Tie as tie
 
 module _ (c : tie.Else-number-ne0) where
   abbrev t : ℕ
-  t = c.before.before.args.t
+  t = c.args.t
 
   abbrev n : ℕ
-  n = c.before.before.args.length
+  n = c.args.length
 
   abbrev readers : ℕ
-  readers = c.before.before.args.readers
+  readers = c.args.readers
 
   abbrev stores : ℕ
-  stores = c.before.before.args.stores
+  stores = c.args.stores
 
   none_applies : plan_refusal_def t n readers stores ≡ 0
-  none_applies = sym c.before.plan_refusal-number.ensures ∙ c.if-number-ne0.false
+  none_applies = sym c.plan_refusal-number.ensures ∙ c.if-number-ne0.false
 
   ok : Plans t n readers stores
   ok = plans t n readers stores none_applies
@@ -34,8 +34,8 @@ module _ (c : tie.Else-number-ne0) where
 
 returns : tie.Need-returns-then-number-ne0
 returns c =
-    let args = c.before.before.args in
-    let r = c.before.plan_refusal-number in
+    let args = c.args in
+    let r = c.plan_refusal-number in
     sym (plan-refused args.t args.length args.readers args.stores (λ e. c.if-number-ne0.true (r.ensures ∙ e))
     ∙ ap no_plan (sym r.ensures))
 
@@ -68,9 +68,9 @@ returns-2 c =
     (λ i.
     record {
       number = 0;
-      kinds = at-filters.before.kinds.ensures i;
+      kinds = at-filters.kinds.ensures i;
       filters = at-filters.filters.ensures i;
-      held = at-packets.before.held.ensures i;
+      held = at-packets.held.ensures i;
       packets = at-packets.packets.ensures i;
       memory = c.memory.ensures i;
     })

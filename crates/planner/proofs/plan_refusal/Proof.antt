@@ -23,10 +23,10 @@ start-from-else1 c = c.before.before
 -- ---- what the tests that were passed say
 
 faults-in : (c : tie.Else-outside) → not (within 1 top_faults (start-from-else1 c).args.t) ≡ false
-faults-in c = sym c.before.outside.ensures ∙ c.if-outside.false
+faults-in c = sym c.outside.ensures ∙ c.if-outside.false
 
 readers-in : (c : tie.Else-outside-2) → not (within 1 top_client (start-from-else1 (else1-from-else2 c)).args.readers) ≡ false
-readers-in c = sym c.before.outside-2.ensures ∙ c.if-outside-2.false
+readers-in c = sym c.outside-2.ensures ∙ c.if-outside-2.false
 
 last-test : (c : tie.Else-length-gt-TOP_LENGTH) (b : Bool) → let a = (start-from-else1 (else1-from-else2 (else2-from-else3 c))).args in
     ltb capacity a.stores ≡ b → plan_refusal_def a.t a.length a.readers a.stores ≡ cond b 18 0
@@ -41,15 +41,15 @@ last-test c b e =
 
 returns : tie.Need-returns-then-outside
 returns c =
-    let a = c.before.before.args in
-    sym (plan_tests a.t a.length a.readers a.stores true _ _ _ (sym c.before.outside.ensures ∙ c.if-outside.true) refl refl refl)
+    let a = c.args in
+    sym (plan_tests a.t a.length a.readers a.stores true _ _ _ (sym c.outside.ensures ∙ c.if-outside.true) refl refl refl)
 
 returns-2 : tie.Need-returns-then-outside-2
 returns-2 c =
     let at-else1 = c.before.before in
     let a = (start-from-else1 at-else1).args in
     sym (plan_tests a.t a.length a.readers a.stores false true _ _ (faults-in at-else1)
-    (sym c.before.outside-2.ensures ∙ c.if-outside-2.true) refl refl)
+    (sym c.outside-2.ensures ∙ c.if-outside-2.true) refl refl)
 
 returns-3 : tie.Need-returns-then-length-gt-TOP_LENGTH
 returns-3 c =

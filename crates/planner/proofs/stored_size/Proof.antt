@@ -9,7 +9,7 @@ use Rattle.planner.proofs.stored_size.Statement.{statement}
 use Rattle.planner.proofs.stored_size.Tie as tie
 
 add-result : tie.Need-overflow_add-result
-add-result c = let p = c.before.requires in omega (arith, c.share_size.ensures, share-most _ _ p.0 p.1)
+add-result c = let p = c.requires in omega (arith, c.share_size.ensures, share-most _ _ p.0 p.1)
 
 returns : tie.Need-returns
 returns c = ap (λ (n : ℕ). stamp_size + n) c.share_size.ensures

@@ -17,15 +17,15 @@ abbrev decreases-loop : tie.decreases-loop-i
 decreases-loop a b i₀ i = tag_size - i
 
 returns : tie.Need-returns-then-a-i invariant-loop decreases-loop
-returns c = let a = c.before.before.before.args in sym (byte_differs a.a a.b c.before.before.loop-i.i c.if-a-i.true)
+returns c = let a = c.args in sym (byte_differs a.a a.b c.loop-i.i c.if-a-i.true)
 
 loop-again : tie.Need-loop-i-preserved invariant-loop decreases-loop
-loop-again c = (search rules, below_more _ _ c.before.before.loop-i.invariant.1 c.if-a-i.false)
+loop-again c = (search rules, below_more _ _ c.loop-i.invariant.1 c.if-a-i.false)
 
 returns-2 : tie.Need-returns invariant-loop decreases-loop
 returns-2 c =
-    let a = c.before.before.args in
-    sym (same_by-places a.a a.b (omega arith) (λ i h. c.before.loop-i.invariant.1 i (omega arith)))
+    let a = c.args in
+    sym (same_by-places a.a a.b (omega arith) (λ i h. c.loop-i.invariant.1 i (omega arith)))
 
 pub same_tag_spec : {M : Type 1} → statement M
 same_tag_spec = tie.close (tie.spec invariant-loop decreases-loop (λ c. search rules) (λ c. search rules) (λ c. search rules) returns (λ c. search rules)

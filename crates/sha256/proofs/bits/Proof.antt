@@ -21,17 +21,17 @@ loop-holds c = (omega arith, refl, refl)
 
 loop-again : tie.Need-loop-i-preserved invariant-loop decreases-loop
 loop-again c =
-    let at = c.before.loop-i in
+    let at = c.loop-i in
     let e : 7 - at.i ≡ 8 - suc at.i = omega arith in (
       omega arith,
       search rules,
-      tab_more _ _ _ _ (omega arith) at.invariant.2 (ap (λ (k : ℕ). c.before.before.args.n * 8 % 2 ^ 64 / 2 ^ (8 * k) %
+      tab_more _ _ _ _ (omega arith) at.invariant.2 (ap (λ (k : ℕ). c.args.n * 8 % 2 ^ 64 / 2 ^ (8 * k) %
           256) e),
     )
 
 returns : tie.Need-returns invariant-loop decreases-loop
 unfolding big_endian
-returns c = let e : c.before.loop-i.i ≡ 8 = omega arith in tab_all 8 _ _ c.before.loop-i.invariant.1 (rw e at c.before.loop-i.invariant.2)
+returns c = let e : c.loop-i.i ≡ 8 = omega arith in tab_all 8 _ _ c.loop-i.invariant.1 (rw e at c.loop-i.invariant.2)
 
 pub bits_spec : {M : Type 1} → statement M
 bits_spec = tie.close (tie.spec invariant-loop decreases-loop loop-holds (λ c. search rules) (λ c. search rules) (λ c. search rules) (λ c. search rules)

@@ -13,7 +13,7 @@ use Rattle.sha256.proofs.digest_after_with.Tie as tie
 returns : tie.Need-returns
 unfolding digest_after_def
 returns c =
-    let a = c.before.before.before.args in
+    let a = c.args in
     let m : List ℕ = a.m.now in
     let n : ℕ = 64 + length m + 32 in
     let d : length a.d ≡ 32 = search rules in

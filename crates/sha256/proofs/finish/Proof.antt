@@ -20,13 +20,13 @@ slice-aggregate-absorb-2 c = simp length-take (omega arith)
 returns : tie.Need-returns
 returns c =
     let at_tail = c.before.before.before.before in
-    let a = at_tail.before.before.before.before.before.before.before.args in
+    let a = at_tail.args in
     let m : List ℕ = a.m.now in
     let w : ℕ = length m / 64 * 64 in
     let rest = take_all (length m - w) (drop w m) (omega (arith, length-drop w m)) in
     c.bytes.ensures
-    ∙ ap bytes_of c.before.absorb-g.ensures
-    ∙ finished _ m a.d.now _ _ _ a.n w _ refl at_tail.before.before.before.absorb-g.ensures rest refl (omega arith) (omega arith)
+    ∙ ap bytes_of c.absorb-g.ensures
+    ∙ finished _ m a.d.now _ _ _ a.n w _ refl at_tail.absorb-g.ensures rest refl (omega arith) (omega arith)
     at_tail.tail.ensures
 
 pub finish_spec : {M : Type 1} → statement M

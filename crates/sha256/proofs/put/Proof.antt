@@ -20,20 +20,20 @@ loop-holds c = (search rules, (paste-zero c.args.t.now c.args.i c.args.s.now, re
 
 loop-again : tie.Need-loop-k-preserved invariant-loop decreases-loop
 loop-again c =
-    let a = c.before.before.before.args in
-    let i = c.before.before.loop-k.k in (
+    let a = c.args in
+    let i = c.loop-k.k in (
       search rules,
       (
-        rw c.before.before.loop-k.invariant.1.0 (rw add-one (paste-suc a.t.now a.i a.s.now i 0 (omega arith) (omega arith))),
-        simp length-set c.before.before.loop-k.invariant.1.1,
+        rw c.loop-k.invariant.1.0 (rw add-one (paste-suc a.t.now a.i a.s.now i 0 (omega arith) (omega arith))),
+        simp length-set c.loop-k.invariant.1.1,
       ),
     )
 
 same_length : tie.Need-shape_of-t invariant-loop decreases-loop
-same_length c = c.before.loop-k.invariant.1.1
+same_length c = c.loop-k.invariant.1.1
 
 returns : tie.Need-returns invariant-loop decreases-loop
-returns c = let e : length c.before.before.args.s.now ≡ c.before.loop-k.k = omega arith in rw e c.before.loop-k.invariant.1.0
+returns c = let e : length c.args.s.now ≡ c.loop-k.k = omega arith in rw e c.loop-k.invariant.1.0
 
 pub put_spec : {M : Type 1} → statement M
 put_spec = tie.close (tie.spec invariant-loop decreases-loop loop-holds (λ c. search rules) (λ c. search rules) (λ c. omega arith) (λ c. search rules)

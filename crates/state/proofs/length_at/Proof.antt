@@ -9,12 +9,12 @@ use Rattle.state.proofs.length_at.Tie as tie
 cast-result : tie.Need-overflow_cast-result
 cast-result c =
     let at-start = c.before.before.before in
-    let small = length-small at-start.args.bytes.now c.before.rest.ensures c.number2.ensures
-    (λ k. (c.before.before.shared_slice_known-1.given k).fits) in
+    let small = length-small at-start.args.bytes.now c.rest.ensures c.number2.ensures
+    (λ k. (c.shared_slice_known-1.given k).fits) in
     omega (arith, small)
 
 returns : tie.Need-returns
-returns c = length-told c.before.before.before.args.bytes.now c.before.rest.ensures c.number2.ensures
+returns c = length-told c.args.bytes.now c.rest.ensures c.number2.ensures
 
 pub length_at_spec : {M : Type 1} → statement M
 length_at_spec = tie.close (tie.spec (λ c κs. search rules) (λ c κs. search rules) cast-result returns)

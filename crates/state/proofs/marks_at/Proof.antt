@@ -22,21 +22,21 @@ decreases-loop bytes a₀ i₀ a i = most_servers - i
 returns : tie.Need-returns-then-bytes-lt-SIZE invariant-loop decreases-loop
 unfolding marks_at_def
 returns c =
-    placed-padded most_servers c.before.before.before.before.before.before.args.bytes.now numbers_size c.before.before.part.ensures
-    c.before.put.ensures
+    placed-padded most_servers c.args.bytes.now numbers_size c.part.ensures
+    c.put.ensures
 
 loop-holds : tie.Need-loop-i-init invariant-loop decreases-loop
 loop-holds c = (omega arith, filled_none (length-replicate {A = ℕ} most_servers 0))
 
 loop-again : tie.Need-loop-i-preserved invariant-loop decreases-loop
-loop-again c = (omega arith, filled_more c.before.before.loop-i.invariant.1 (omega arith) _ refl)
+loop-again c = (omega arith, filled_more c.loop-i.invariant.1 (omega arith) _ refl)
 
 returns-2 : tie.Need-returns invariant-loop decreases-loop
 unfolding marks_at_def
 returns-2 c =
-    let d = c.before.before.before.before.args.bytes.now in
-    let v = c.before.loop-i.invariant in
-    ext_get_or 0 c.before.loop-i.a (padded most_servers (drop numbers_size d)) (v.1.size ∙ sym (padded-length most_servers (drop numbers_size d)))
+    let d = c.args.bytes.now in
+    let v = c.loop-i.invariant in
+    ext_get_or 0 c.loop-i.a (padded most_servers (drop numbers_size d)) (v.1.size ∙ sym (padded-length most_servers (drop numbers_size d)))
     (λ j h.
     let k : j < most_servers = omega (arith, v.1.size) in
     v.1.each j (omega arith) ∙ sym (get_or-drop numbers_size d j 0) ∙ sym (padded_get most_servers (drop numbers_size d) j k))

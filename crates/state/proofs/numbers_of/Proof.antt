@@ -13,7 +13,7 @@ returns c =
     let at_high = at_length.before.before.before in
     let at_last = at_high.before.before.before in
     let at-number = at_last.before.before.before in
-    numbers-made at-number.before.before.before.args.call at-number.put_number4.ensures at_last.put_number4-2.ensures
+    numbers-made at-number.args.call at-number.put_number4.ensures at_last.put_number4-2.ensures
     at_high.put_number4-3.ensures at_length.put_number2.ensures at-round.put_byte.ensures at_count.put_byte-2.ensures
 
 pub numbers_of_spec : {M : Type 1} → statement M

@@ -11,12 +11,12 @@ returns c =
     let at-number42 = c.before.before.before.before in
     rw (
       c.tally_at.ensures,
-      c.before.length_at-length.ensures,
-      c.before.before.number4-high.ensures,
-      c.before.before.before.rest-2.ensures,
+      c.length_at-length.ensures,
+      c.number4-high.ensures,
+      c.rest-2.ensures,
       at-number42.number4-last.ensures,
-      at-number42.before.rest.ensures,
-      at-number42.before.before.number4-number.ensures,
+      at-number42.rest.ensures,
+      at-number42.number4-number.ensures,
     )
 
 pub read_spec : {M : Type 1} → statement M

@@ -7,7 +7,7 @@ use Rattle.state.proofs.tally_at.Tie as tie
 
 returns : tie.Need-returns
 unfolding tally_at_def
-returns c = rw (c.marks_at.ensures, c.before.byte_at-count.ensures, c.before.before.byte_at-round.ensures)
+returns c = rw (c.marks_at.ensures, c.byte_at-count.ensures, c.byte_at-round.ensures)
 
 pub tally_at_spec : {M : Type 1} → statement M
 tally_at_spec = tie.close (tie.spec (λ c κs. search rules) (λ c κs. search rules) (λ c κs. search rules) returns)

@@ -17,7 +17,7 @@ returns : tie.Need-returns-then-n-gt32 invariant-loop decreases-loop
 returns c = search rules
 
 loop-again : tie.Need-loop-i-preserved invariant-loop decreases-loop
-loop-again c = simp length-set c.before.before.before.loop-i.invariant
+loop-again c = simp length-set c.loop-i.invariant
 
 slice-aggregate-write-all : tie.Need-slice_bounds-write_all-end invariant-loop decreases-loop
 slice-aggregate-write-all c = simp length-take (omega arith)

@@ -7,8 +7,8 @@ use Rattle.client.proofs.answers.deliver.Tie as tie
 
 returns : tie.Need-returns
 returns c =
-    let a = c.before.before.before.before.before.before.before.args in
-    (rw c.enter.ensures, c.before.before.before.write_at.ensures ∙ put-over a.out.now a.content.now)
+    let a = c.args in
+    (rw c.enter.ensures, c.write_at.ensures ∙ put-over a.out.now a.content.now)
 
 pub deliver_spec : {M : Type 1} → statement M
 deliver_spec = tie.close (tie.spec (λ c κs. search rules) (λ c. search rules) (λ c κs. search rules) (λ c. search rules) returns)

@@ -11,19 +11,19 @@ use Rattle.client.proofs.answers.step.Tie as tie
 
 module _ (c : tie.After-is_full) where
   abbrev start : tie.Start
-  start = c.before.before
+  start = c.before.before.before
 
   -- the test of the code tells whether the reply ends the round
   ended : (v : Bool) → c.is_full.result ≡ v → ends (shelf start.args.t) start.args.call start.args.server ≡ v
   ended v e =
-      ends_by start.args.t start.args.call start.args.server _ (ap (λ (z : Call). z.tally) c.before.note_reply-noted.ensures) _ v
+      ends_by start.args.t start.args.call start.args.server _ (ap (λ (z : Call). z.tally) c.note_reply-noted.ensures) _ v
       c.is_full.ensures e
 
 returns : tie.Need-returns-then-is_full
-returns c = let e = ended c.before.before.before _ c.before.before.if-is_full.true in rw (c.more.ensures, c.before.enter.ensures, e)
+returns c = let e = ended c.before.before.before _ c.if-is_full.true in rw (c.more.ensures, c.enter.ensures, e)
 
 returns-2 : tie.Need-returns
-returns-2 c = let e = ended c.before.before _ c.before.if-is_full.false in rw (c.more-2.ensures, c.before.before.before.note_reply-noted.ensures, e)
+returns-2 c = let e = ended c.before.before _ c.if-is_full.false in rw (c.more-2.ensures, c.note_reply-noted.ensures, e)
 
 pub step_spec : {M : Type 1} → statement M
 step_spec = tie.close (tie.spec (λ c κs. search rules) (λ c κs. search rules) (λ c κs. search rules) (λ c κs. search rules) returns

@@ -13,16 +13,16 @@ wide c = search rules
 
 returns : tie.Need-returns-then-kept-ne-KEPT
 returns c =
-    let a = c.before.before.before.args in
-    let e = read_short a.party.t a.party.client a.call a.kept.now c.before.if-kept-ne-KEPT.true in
+    let a = c.args in
+    let e = read_short a.party.t a.party.client a.call a.kept.now c.if-kept-ne-KEPT.true in
     (rw (e, c.not_begun.ensures), rw e)
 
 returns-2 : tie.Need-returns-then-n-ne0
 returns-2 c =
     let at-start = c.before.before.before.before.before in
     let a = at-start.args in
-    let e = read-refused a.party.t a.party.client a.call a.kept.now (wide at-start) c.before.before.before.if-kept-ne-KEPT.false _
-    c.before.before.read_refusal-n.ensures c.before.if-n-ne0.true in
+    let e = read-refused a.party.t a.party.client a.call a.kept.now (wide at-start) c.if-kept-ne-KEPT.false _
+    c.read_refusal-n.ensures c.if-n-ne0.true in
     (rw (e, c.not_begun-then-n-ne0.ensures), rw e)
 
 -- Places far back, each named once: the place, and from where it is seen.
@@ -33,7 +33,7 @@ next-call-requires : tie.Need-next_call-requires
 next-call-requires c κs =
     let at-else2 = c.before.before.before.before in
     let a = (start-from-else2 at-else2).args in
-    let z = sym at-else2.before.read_refusal-n.ensures ∙ at-else2.if-n-ne0.false in
+    let z = sym at-else2.read_refusal-n.ensures ∙ at-else2.if-n-ne0.false in
     let f = read_fits a.party.t a.party.client a.call a.kept.now z in
     omega arith
 
@@ -42,9 +42,9 @@ returns-3 c =
     let at-else2 = c.before.before.before.before.before in
     let at-start = start-from-else2 at-else2 in
     let a = at-start.args in
-    let z = sym at-else2.before.read_refusal-n.ensures ∙ at-else2.if-n-ne0.false in
-    let e = read-begins a.party.t a.party.client a.call a.kept.now (wide at-start) at-else2.before.before.if-kept-ne-KEPT.false z in
-    (rw (e, c.next_call.ensures), rw e c.before.before.before.clear_slots.ensures)
+    let z = sym at-else2.read_refusal-n.ensures ∙ at-else2.if-n-ne0.false in
+    let e = read-begins a.party.t a.party.client a.call a.kept.now (wide at-start) at-else2.if-kept-ne-KEPT.false z in
+    (rw (e, c.next_call.ensures), rw e c.clear_slots.ensures)
 
 pub begin_read_in_spec : {M : Type 1} → statement M
 begin_read_in_spec = tie.close (tie.spec (λ c κs. search rules) returns (λ c κs. search rules) (λ c κs. search rules) returns-2 (λ c κs. search rules)

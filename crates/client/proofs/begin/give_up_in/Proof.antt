@@ -19,14 +19,14 @@ wide c = search rules
 returns : tie.Need-returns-then-n-ne0
 unfolding abort_by_rounds
 returns c =
-    let a = c.before.before.before.args in
-    let e = c.before.abort_refusal-n.ensures in
+    let a = c.args in
+    let e = c.abort_refusal-n.ensures in
     let n = abort_refusal_def (shelf a.party.t) a.party.client (awaited a.call) in
     rw (same_abort a.party.t a.party.client a.call (wide c.before.before.before), e, refused_is n _ _ (λ z. c.if-n-ne0.true (e ∙ z)))
 
-not-refused : (c : tie.Else-n-ne0) → abort_refusal_def (shelf c.before.before.before.args.party.t) c.before.before.before.args.party.client
-    (awaited c.before.before.before.args.call) ≡ 0
-not-refused c = sym c.before.abort_refusal-n.ensures ∙ c.if-n-ne0.false
+not-refused : (c : tie.Else-n-ne0) → abort_refusal_def (shelf c.args.party.t) c.args.party.client
+    (awaited c.args.call) ≡ 0
+not-refused c = sym c.abort_refusal-n.ensures ∙ c.if-n-ne0.false
 
 returns-2 : tie.Need-returns-then-round-eq-COMPLETE
 unfolding abort_by_rounds
@@ -37,8 +37,8 @@ returns-2 c =
       same_abort a.party.t a.party.client a.call (wide at-start),
       not-refused c.before.before.before,
       eq-eqb a.call.tally.round 3 c.if-round-eq-COMPLETE.true,
-      c.before.with_tally-c.ensures,
-      c.before.before.fresh_tally.ensures,
+      c.with_tally-c.ensures,
+      c.fresh_tally.ensures,
     )
 
 returns-3 : tie.Need-returns
@@ -50,8 +50,8 @@ returns-3 c =
       same_abort a.party.t a.party.client a.call (wide at-start),
       not-refused c.before.before.before,
       ne_eqb a.call.tally.round 3 c.if-round-eq-COMPLETE.false,
-      c.before.with_tally-c.ensures,
-      c.before.before.fresh_tally.ensures,
+      c.with_tally-c.ensures,
+      c.fresh_tally.ensures,
     )
 
 pub give_up_in_spec : {M : Type 1} → statement M

@@ -9,7 +9,7 @@ use Rattle.client.proofs.begin.read_by_value.Tie as tie
 
 returns : tie.Need-returns
 returns c =
-    let a = c.before.before.args in
+    let a = c.args in
     let e = core_read_lem a.party.t a.party.client a.call a.kept.now (search rules) in
     let r = c.begin_read_in.ensures in
     (r.0 ∙ ap started e, r.1 ∙ ap (λ (x : Begun). x.kept) e)

@@ -9,7 +9,7 @@ use Rattle.client.proofs.begin.write_by_value.Tie as tie
 
 returns : tie.Need-returns
 returns c =
-    let a = c.before.before.before.args in
+    let a = c.args in
     let e = core_write_lem a.party.t a.party.client a.call a.kept.now a.content.now a.nonce.now (search rules) in
     let r = c.begin_write_in.ensures in
     (r.0 ∙ ap started e, r.1 ∙ ap (λ (x : Begun). x.kept) e)

@@ -7,19 +7,19 @@ use Rattle.client.proofs.clock.clock_refusal.Statement.{statement}
 use Rattle.client.proofs.clock.clock_refusal.Tie as tie
 
 returns : tie.Need-returns-then-is_over
-returns c = rw (sym c.before.is_over.ensures ∙ c.if-is_over.true)
+returns c = rw (sym c.is_over.ensures ∙ c.if-is_over.true)
 
 returns-2 : tie.Need-returns-then-room-lt-CONTENT_ROOM
 returns-2 c = rw (
-  sym c.before.before.is_over.ensures ∙ c.before.if-is_over.false,
-  lt-ltb c.before.before.before.args.room content_room
+  sym c.is_over.ensures ∙ c.if-is_over.false,
+  lt-ltb c.args.room content_room
       c.if-room-lt-CONTENT_ROOM.true,
 )
 
 returns-3 : tie.Need-returns
 returns-3 c = rw (
-  sym c.before.before.is_over.ensures ∙ c.before.if-is_over.false,
-  le-ltb c.before.before.before.args.room content_room
+  sym c.is_over.ensures ∙ c.if-is_over.false,
+  le-ltb c.args.room content_room
       c.if-room-lt-CONTENT_ROOM.false,
 )
 

@@ -8,8 +8,8 @@ use Rattle.client.proofs.clock.end_clock.Tie as tie
 returns : tie.Need-returns
 returns c =
     let at-prepare = c.before.before.before.before in (
-      c.more.ensures ∙ rw c.before.enter_store.ensures,
-      at-prepare.prepare.ensures ∙ rw (add-one at-prepare.before.before.before.args.high),
+      c.more.ensures ∙ rw c.enter_store.ensures,
+      at-prepare.prepare.ensures ∙ rw (add-one at-prepare.args.high),
     )
 
 pub end_clock_spec : {M : Type 1} → statement M

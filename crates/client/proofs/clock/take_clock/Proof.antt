@@ -44,7 +44,7 @@ higher-requires c κs =
       rw at_rest.rest-body.ensures (omega (
         arith,
         clock-long a.party.t a.party.client a.call a.reply.now a.passed.head p.0
-            (λ k. (at_rest.before.shared_slice_known-1.given k).fits) p.1.0,
+            (λ k. (at_rest.shared_slice_known-1.given k).fits) p.1.0,
       )),
       rw at_rest.rest-body.ensures (ap (λ (l : Label). l.number) (told z)),
     )
@@ -68,7 +68,7 @@ is-full-requires c κs =
     (ready-faults a.party.t a.party.client a.call a.reply.now a.passed.head q.requires.0).1
 
 abbrev higher-from-clock-refusal : tie.After-clock_refusal-n → tie.After-higher-high
-higher-from-clock-refusal c = c.before.before.before.before.before.before
+higher-from-clock-refusal c = c.before.before.before.before.before.before.before
 
 -- what is known once the refusals are tested: the highest number, and whether the reply ends the round
 module _ (c : tie.After-clock_refusal-n) where
@@ -82,16 +82,16 @@ module _ (c : tie.After-clock_refusal-n) where
   high_is =
       let at-higher = higher-from-clock-refusal c in
       at-higher.higher-high.ensures ∙ ap (λ (d : List ℕ). higher real start.args.writers.now start.args.call.high (stamp_at_def d))
-      at-higher.before.before.rest-body.ensures
+      at-higher.rest-body.ensures
 
-  ended : (v : Bool) → c.before.is_full-ends.result ≡ v
+  ended : (v : Bool) → c.is_full-ends.result ≡ v
       → ends (shelf start.args.party.t) start.args.call start.args.passed.head.server ≡ v
   ended v e =
       ends_by start.args.party.t start.args.call start.args.passed.head.server _
-      (ap (λ (z : Call). z.tally) c.before.before.note_reply-noted.ensures
+      (ap (λ (z : Call). z.tally) c.note_reply-noted.ensures
       ∙ ap (λ (z : Call). noted (shelf start.args.party.t) z.tally start.args.passed.head.server)
-      c.before.before.before.with_high.ensures) _ v
-      c.before.is_full-ends.ensures e
+      c.with_high.ensures) _ v
+      c.is_full-ends.ensures e
 
   refusal_is : c.clock_refusal-n.result
       ≡ first_of (refuse 14 (ends (shelf start.args.party.t) start.args.call start.args.passed.head.server && leb top_number high)
@@ -105,7 +105,7 @@ returns c =
     let p = (start q).requires in
     λ output l. rw c.refused.ensures
     (clock-refused a.party.t a.party.client a.call a.reply.now a.passed.head p.0 a.writers.now a.keys.now
-    a.kept.now output p.1.0 q.clock_refusal-n.result a.room (high q) (refusal_is q) c.before.if-n-ne0.true (high_is q) l)
+    a.kept.now output p.1.0 q.clock_refusal-n.result a.room (high q) (refusal_is q) c.if-n-ne0.true (high_is q) l)
 
 end-clock-requires : tie.Need-end_clock-requires
 end-clock-requires c κs =
@@ -116,7 +116,7 @@ end-clock-requires c κs =
     let b =
     clock-below a.party.t a.party.client a.call a.reply.now a.passed.head p.0 a.writers.now a.keys.now a.kept.now []
     p.1.0
-    q.clock_refusal-n.result a.room (high q) (refusal_is q) c.before.before.if-n-ne0.false (high_is q) (ended q _ c.before.if-ends.true) in
+    q.clock_refusal-n.result a.room (high q) (refusal_is q) c.if-n-ne0.false (high_is q) (ended q _ c.if-ends.true) in
     (f.0, (f.1, ((ready-client a.party.t a.party.client a.call a.reply.now a.passed.head p.0).1, (p.1.1.0, b))))
 
 returns-2 : tie.Need-returns-then-ends
@@ -128,18 +128,18 @@ returns-2 c =
     λ output l. rw (d.end_clock.ensures.0, d.end_clock.ensures.1)
     (clock-ended a.party.t a.party.client a.call a.reply.now a.passed.head p.0 a.writers.now a.keys.now
     a.kept.now output p.1.0
-    q.clock_refusal-n.result a.room (high q) (refusal_is q) d.before.before.before.if-n-ne0.false (high_is q) l
-    (ended q _ d.before.before.if-ends.true))
+    q.clock_refusal-n.result a.room (high q) (refusal_is q) d.if-n-ne0.false (high_is q) l
+    (ended q _ d.if-ends.true))
 
 returns-3 : tie.Need-returns
 returns-3 c =
     let q = c.before.before.before in
     let a = (start q).args in
     let p = (start q).requires in
-    λ output l. rw (c.more.ensures, q.before.before.note_reply-noted.ensures, q.before.before.before.with_high.ensures)
+    λ output l. rw (c.more.ensures, q.note_reply-noted.ensures, q.with_high.ensures)
     (clock-noted a.party.t a.party.client a.call a.reply.now a.passed.head p.0 a.writers.now a.keys.now
     a.kept.now output p.1.0
-    q.clock_refusal-n.result a.room (high q) (refusal_is q) c.before.before.if-n-ne0.false (high_is q) l (ended q _ c.before.if-ends.false))
+    q.clock_refusal-n.result a.room (high q) (refusal_is q) c.if-n-ne0.false (high_is q) l (ended q _ c.if-ends.false))
 
 pub take_clock_spec : {M : Type 1} → statement M
 take_clock_spec = tie.close (tie.spec (λ c κs. search rules) higher-requires (λ c. search rules) (λ c κs. search rules) note-reply-requires

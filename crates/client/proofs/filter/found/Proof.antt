@@ -9,16 +9,16 @@ returns : tie.Need-returns-then-same_tags
 unfolding found_at
 returns c =
     let at-label-in = c.before.before.before.before in
-    let e = sym at-label-in.before.before.before.same_tags.ensures ∙ at-label-in.before.before.if-same_tags.true in
-    let d = c.before.before.deliver.ensures in
+    let e = sym at-label-in.same_tags.ensures ∙ at-label-in.if-same_tags.true in
+    let d = c.deliver.ensures in
     rw (e, d.0, d.1, at-label-in.label_in-label.ensures)
 
 returns-2 : tie.Need-returns
 unfolding found_at
 returns-2 c =
     let at-else1 = c.before.before.before.before in
-    let e = sym at-else1.before.same_tags.ensures ∙ at-else1.if-same_tags.false in
-    let d = c.before.before.repair_with.ensures in
+    let e = sym at-else1.same_tags.ensures ∙ at-else1.if-same_tags.false in
+    let d = c.repair_with.ensures in
     rw (e, d.0, d.1)
 
 pub found_spec : {M : Type 1} → statement M

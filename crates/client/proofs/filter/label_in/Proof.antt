@@ -7,7 +7,7 @@ use Rattle.client.proofs.filter.label_in.Tie as tie
 
 returns : tie.Need-returns
 unfolding candidates_in candidate_at
-returns c = rw (c.label.ensures, c.before.part.ensures, lt-ltb c.before.before.before.args.i 13 c.before.before.before.requires)
+returns c = rw (c.label.ensures, c.part.ensures, lt-ltb c.args.i 13 c.requires)
 
 pub label_in_spec : {M : Type 1} → statement M
 label_in_spec = tie.close (tie.spec (λ c. search rules) (λ c. search rules) (λ c κs. search rules) (λ c κs. search rules) returns)

@@ -17,7 +17,7 @@ write-at-requires c κs =
     let at-start = start-from-tags-at at-tags-at in
     let a = at-start.args in
     let p = at-start.requires in
-    rw at-tags-at.before.before.part-name.ensures (name-fits a.led.t a.kept.now a.led.slot a.led.server a.n p.0
+    rw at-tags-at.part-name.ensures (name-fits a.led.t a.kept.now a.led.slot a.led.server a.n p.0
     p.1.1.1.1.1.0 p.1.0
     p.1.1.0 p.1.1.1.0 p.1.1.1.1.0 a.bytes.now p.1.1.1.1.1.1)
 
@@ -29,8 +29,8 @@ write-at-requires-2 c κs =
     let a = at-start.args in
     let p = at-start.requires in
     rw (
-      at-write-at.before.before.part-tags.ensures,
-      at-write-at.before.before.before.tags_size.ensures,
+      at-write-at.part-tags.ensures,
+      at-write-at.tags_size.ensures,
       at-tags-at.tags_at.ensures.0,
     )
     (omega (
@@ -46,13 +46,13 @@ returns c =
     let at-start = start-from-tags-at at-tags-at in
     let a = at-start.args in
     let p = at-start.requires in
-    c.before.before.write_at-2.ensures
+    c.write_at-2.ensures
     ∙ rw (
       at-write-at.write_at.ensures,
-      at-write-at.before.before.part-tags.ensures,
-      at-write-at.before.before.before.tags_size.ensures,
+      at-write-at.part-tags.ensures,
+      at-write-at.tags_size.ensures,
       at-tags-at.tags_at.ensures.0,
-      at-tags-at.before.before.part-name.ensures,
+      at-tags-at.part-name.ensures,
     )
     (repair_put a.led.t a.kept.now a.led.slot a.led.server a.n p.0 p.1.1.1.1.1.0 p.1.0 p.1.1.0
     p.1.1.1.0 p.1.1.1.1.0

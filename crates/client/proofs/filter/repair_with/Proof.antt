@@ -17,7 +17,7 @@ use Rattle.client.proofs.filter.repair_with.Tie as tie
 
 -- Places far back, each named once: the place, and from where it is seen.
 abbrev start-from-put-repair : tie.After-put_repair → tie.Start
-start-from-put-repair c = c.before.before.before.before.before
+start-from-put-repair c = c.before.before.before.before
 
 write-at-requires-2 : tie.Need-write_at-requires-2
 unfolding shelf
@@ -25,9 +25,9 @@ write-at-requires-2 c κs =
     let at-write-at = c.before.before.before.before.before.before.before in
     let at-put-repair = at-write-at.before.before.before in
     let at-start = start-from-put-repair at-put-repair in
-    let n = c.before.before.before.candidate_size-size.result in
+    let n = c.candidate_size-size.result in
     let z : n ≡ candidate_size_def (shelf at-start.args.led.t) =
-    c.before.before.before.candidate_size-size.ensures in
+    c.candidate_size-size.ensures in
     let q : length c.part.result.now ≤ n = rw c.part.ensures (part-most at-put-repair.put_repair.new.0 0 n) in
     omega (
       arith,
@@ -53,9 +53,9 @@ returns c =
     p.1.1.0 p.1.1.1.0
     p.1.1.1.1.1 (replicate candidate_slot 0) (omega (arith, l)) in (
       c.repairing.ensures,
-      c.before.before.before.write_at-2.ensures ∙ rw (
+      c.write_at-2.ensures ∙ rw (
         at_part.part.ensures,
-        at_part.before.before.before.candidate_size-size.ensures,
+        at_part.candidate_size-size.ensures,
         at-write-at.write_at.ensures,
         k,
       ),

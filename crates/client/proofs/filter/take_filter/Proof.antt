@@ -21,8 +21,8 @@ use Rattle.client.proofs.filter.take_filter.Tie as tie
 put-reply-requires : tie.Need-put_reply-requires
 put-reply-requires c κs =
     let at-shared-slice-known = c.before.before.before.before in
-    let a = at-shared-slice-known.before.before.args in
-    let p = at-shared-slice-known.before.before.requires in
+    let a = at-shared-slice-known.args in
+    let p = at-shared-slice-known.requires in
     let Y : Bytes a.reply.now = λ k. (at-shared-slice-known.shared_slice_known-1.given k).fits in
     let v = ready-server a.party.t a.party.client a.call a.reply.now a.head p.0 in (
       v.0,
@@ -52,12 +52,12 @@ note-reply-requires c κs =
 
 is-full-requires : tie.Need-is_full-requires
 is-full-requires c κs =
-    let q = (shared-slice-known-from-put-reply c.before.before.before).before.before in
+    let q = (shared-slice-known-from-put-reply c.before.before.before.before).before.before in
     let a = q.args in
     (ready-faults a.party.t a.party.client a.call a.reply.now a.head q.requires.0).1
 
 abbrev put-reply-from-is-full : tie.After-is_full → tie.After-put_reply
-put-reply-from-is-full c = c.before.before.before.before
+put-reply-from-is-full c = c.before.before.before.before.before
 
 module _ (c : tie.After-is_full) where
   abbrev start : tie.Start
@@ -67,7 +67,7 @@ module _ (c : tie.After-is_full) where
   ended : (v : Bool) → c.is_full.result ≡ v → ends (shelf start.args.party.t) start.args.call start.args.head.server ≡ v
   ended v e =
       ends_by start.args.party.t start.args.call start.args.head.server _ (ap (λ (z : Call). z.tally)
-      c.before.note_reply-noted.ensures) _ v
+      c.note_reply-noted.ensures) _ v
       c.is_full.ensures e
 
 judge-requires : tie.Need-judge-requires
@@ -75,8 +75,8 @@ judge-requires c κs =
     let at-is-full = c.before.before.before in
     let at-put-reply = put-reply-from-is-full at-is-full in
     let at-shared-slice-known = shared-slice-known-from-put-reply at-put-reply in
-    let a = at-shared-slice-known.before.before.args in
-    let p = at-shared-slice-known.before.before.requires in
+    let a = at-shared-slice-known.args in
+    let p = at-shared-slice-known.requires in
     let r = ready-faults a.party.t a.party.client a.call a.reply.now a.head p.0 in
     (r.0, (r.1, (omega (arith, p.1.1.0), p.1.1.1)))
 
@@ -84,20 +84,20 @@ returns : tie.Need-returns-then-is_full
 returns c =
     let at-judge = c.before.before.before.before in
     let at-is-full = at-judge.before.before.before.before in
-    let at-put-reply = at-is-full.before.before.before.before in
+    let at-put-reply = at-is-full.before.before.before.before.before in
     let at-shared-slice-known = shared-slice-known-from-put-reply at-put-reply in
-    let a = at-shared-slice-known.before.before.args in
-    let p = at-shared-slice-known.before.before.requires in
+    let a = at-shared-slice-known.args in
+    let p = at-shared-slice-known.requires in
     let Y : Bytes a.reply.now = λ k. (at-shared-slice-known.shared_slice_known-1.given k).fits in
-    let e = ended at-is-full _ at-judge.before.before.before.if-is_full.true in
+    let e = ended at-is-full _ at-judge.if-is_full.true in
     let at : ℕ = replies_place + reply_slot * (a.head.server - 1) in
-    let N : Bytes at-put-reply.put_reply.new.0 = λ k. (at-is-full.before.before.slice_known-3-1.given k).fits in
+    let N : Bytes at-put-reply.put_reply.new.0 = λ k. (at-is-full.slice_known-3-1.given k).fits in
     let K : Bytes (put a.kept.now at (drop head_size a.reply.now)) = subst Bytes (at-put-reply.put_reply.ensures ∙ ap
-    (put a.kept.now at) at-put-reply.before.rest.ensures) N in
+    (put a.kept.now at) at-put-reply.rest.ensures) N in
     λ writers keys. at-judge.judge.ensures ∙ rw (
-      at-is-full.before.note_reply-noted.ensures,
+      at-is-full.note_reply-noted.ensures,
       at-put-reply.put_reply.ensures,
-      at-put-reply.before.rest.ensures,
+      at-put-reply.rest.ensures,
     )
     (filter-ends a.party.t a.party.client a.call a.reply.now a.head p.0 p.1.0 Y writers keys a.kept.now a.out.now
     p.1.1.1
@@ -106,18 +106,18 @@ returns c =
 returns-2 : tie.Need-returns
 returns-2 c =
     let at-is-full = c.before.before in
-    let at-put-reply = at-is-full.before.before.before.before in
+    let at-put-reply = at-is-full.before.before.before.before.before in
     let at-shared-slice-known = shared-slice-known-from-put-reply at-put-reply in
-    let a = at-shared-slice-known.before.before.args in
-    let p = at-shared-slice-known.before.before.requires in
+    let a = at-shared-slice-known.args in
+    let p = at-shared-slice-known.requires in
     let Y : Bytes a.reply.now = λ k. (at-shared-slice-known.shared_slice_known-1.given k).fits in
-    let e = ended c.before.before _ c.before.if-is_full.false in
+    let e = ended c.before.before _ c.if-is_full.false in
     λ writers keys.
     rw (
       c.more.ensures,
-      c.before.before.before.note_reply-noted.ensures,
+      c.note_reply-noted.ensures,
       at-put-reply.put_reply.ensures,
-      at-put-reply.before.rest.ensures,
+      at-put-reply.rest.ensures,
     )
     (filter_more a.party.t a.party.client a.call a.reply.now a.head p.0 p.1.0 Y writers keys a.kept.now a.out.now
     p.1.1.1 e)

@@ -6,7 +6,7 @@ use Rattle.client.proofs.kept.chosen_label.Tie as tie
 
 returns : tie.Need-returns
 unfolding chosen_of candidate_at
-returns c = rw (c.label.ensures, c.before.part.ensures)
+returns c = rw (c.label.ensures, c.part.ensures)
 
 pub chosen_label_spec : {M : Type 1} → statement M
 chosen_label_spec = tie.close (tie.spec (λ c κs. search rules) (λ c κs. search rules) returns)

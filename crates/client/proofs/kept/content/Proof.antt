@@ -10,8 +10,8 @@ returns : tie.Need-returns
 unfolding content_of
 returns c =
     let e = c.part.ensures in
-    let n = c.before.content_length.ensures in
-    (rw (e, n.0), le_trans (rw e (part-most c.before.before.before.args.kept.now 0 c.before.content_length.result)) n.1)
+    let n = c.content_length.ensures in
+    (rw (e, n.0), le_trans (rw e (part-most c.args.kept.now 0 c.content_length.result)) n.1)
 
 pub content_spec : {M : Type 1} → statement M
 content_spec = tie.close (tie.spec (λ c κs. search rules) (λ c κs. search rules) returns)

@@ -6,8 +6,8 @@ use Rattle.client.proofs.kept.nonce.Statement.{statement}
 use Rattle.client.proofs.kept.nonce.Tie as tie
 
 returns : tie.Need-returns
-returns c = c.nonce_of.ensures ∙ rw c.before.part.ensures (nonce-whole c.before.before.before.args.kept.now
-    c.before.before.before.requires)
+returns c = c.nonce_of.ensures ∙ rw c.part.ensures (nonce-whole c.args.kept.now
+    c.requires)
 
 pub nonce_spec : {M : Type 1} → statement M
 nonce_spec = tie.close (tie.spec (λ c κs. search rules) (λ c κs. search rules) returns)

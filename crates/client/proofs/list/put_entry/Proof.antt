@@ -21,8 +21,8 @@ use Rattle.client.proofs.list.put_entry.Tie as tie
 
 returns : tie.Need-returns-then-not-listed
 returns c =
-    let a = c.before.before.before.before.args in
-    let e : listed_in a.t a.kept.now a.i ≡ false = sym c.before.listed.ensures ∙ not-true c.before.listed.result c.if-not-listed.true in
+    let a = c.args in
+    let e : listed_in a.t a.kept.now a.i ≡ false = sym c.listed.ensures ∙ not-true c.listed.result c.if-not-listed.true in
     rw e (wrote_none a.out.now a.at)
 
 returns-2 : tie.Need-returns
@@ -30,19 +30,19 @@ unfolding shelf
 returns-2 c =
     let at-candidate-size = c.before.before.before.before.before in
     let at-shared-slice-known = at-candidate-size.before.before.before.before in
-    let a = at-shared-slice-known.before.before.args in
-    let p = at-shared-slice-known.before.before.requires in
+    let a = at-shared-slice-known.args in
+    let p = at-shared-slice-known.requires in
     let K : Bytes a.kept.now = λ k. (at-shared-slice-known.shared_slice_known-1.given k).fits in
-    let e : listed_in a.t a.kept.now a.i ≡ true = sym at-candidate-size.before.before.before.listed.ensures ∙
-    not-false at-candidate-size.before.before.before.listed.result at-candidate-size.before.before.if-not-listed.false in
+    let e : listed_in a.t a.kept.now a.i ≡ true = sym at-candidate-size.listed.ensures ∙
+    not-false at-candidate-size.listed.result at-candidate-size.if-not-listed.false in
     let D : List ℕ = bytes_at a.kept.now (candidates_place + candidate_slot * a.i) candidate_slot in
     let x : List ℕ = bytes_at D 0 (candidate_size_def (shelf a.t)) in
     let l : length x ≤ candidate_slot = omega (arith, part-most D 0 (candidate_size_def (shelf a.t)), p.0) in
     let q = rw (
-      c.before.before.before.part-slot.ensures,
-      at-candidate-size.before.part-slot.ensures,
+      c.part-slot.ensures,
+      at-candidate-size.part-slot.ensures,
       at-candidate-size.candidate_size-size.ensures,
-    ) at c.before.before.put.ensures in
+    ) at c.put.ensures in
     rw (e, slot_back (shelf a.t) a.kept.now a.i p.1.0 p.1.1.0 K) (placed-wrote {b = x} q (omega (arith, p.1.1.1)))
 
 pub put_entry_spec : {M : Type 1} → statement M

@@ -26,7 +26,7 @@ decreases-loop out₀ at kept t s next₀ i₀ out next i = s - i
 
 loop-holds : tie.Need-loop-i-init invariant-loop decreases-loop
 unfolding gather
-loop-holds c = let a = c.before.before.before.args in (omega arith, wrote_none a.out.now a.at)
+loop-holds c = let a = c.args in (omega arith, wrote_none a.out.now a.at)
 
 -- Places far back, each named once: the place, and from where it is seen.
 abbrev start-from-at-loop : tie.At-loop-i invariant-loop decreases-loop → tie.Start invariant-loop decreases-loop
@@ -44,8 +44,8 @@ room c =
     let p = at-start.requires in
     let i = c.loop-i.i in
     let v = c.loop-i.invariant in
-    let w : i ≤ most_servers = omega (arith, v.0, c.before.servers-s.ensures, servers-few a.t p.1.0) in
-    let m = list-room a.t a.kept.now p.0 p.1.0 p.1.1.0 i (omega (arith, v.0, c.before.servers-s.ensures)) in
+    let w : i ≤ most_servers = omega (arith, v.0, c.servers-s.ensures, servers-few a.t p.1.0) in
+    let m = list-room a.t a.kept.now p.0 p.1.0 p.1.1.0 i (omega (arith, v.0, c.servers-s.ensures)) in
     (w, m, wrote-length v.1 (omega (arith, m, p.1.1.1, w)))
 
 put-entry-requires : tie.Need-put_entry-next-requires invariant-loop decreases-loop
@@ -54,12 +54,12 @@ put-entry-requires c κs =
     let at-start = start-from-at-loop at-loop in
     let a = at-start.args in
     let p = at-start.requires in
-    let v = c.before.before.loop-i.invariant in
+    let v = c.loop-i.invariant in
     let r = room c.before.before in (
       p.1.0,
       (
-        omega (arith, c.before.before.before.servers-s.ensures, servers-few a.t p.1.0),
-        (p.1.1.0, omega (arith, r.1, r.2, v.1.place, c.before.before.before.servers-s.ensures, servers-few a.t p.1.0, p.1.1.1)),
+        omega (arith, c.servers-s.ensures, servers-few a.t p.1.0),
+        (p.1.1.0, omega (arith, r.1, r.2, v.1.place, c.servers-s.ensures, servers-few a.t p.1.0, p.1.1.1)),
       ),
     )
 
@@ -73,14 +73,14 @@ loop-again c =
     let v = at-loop.loop-i.invariant in (
       omega arith,
       list-entry a.t a.kept.now p.0 p.1.0 p.1.1.0 i (omega
-          (arith, at-loop.before.servers-s.ensures)) p.1.1.1 v.1 c.before.before.put_entry-next.ensures,
+          (arith, at-loop.servers-s.ensures)) p.1.1.1 v.1 c.put_entry-next.ensures,
     )
 
 returns : tie.Need-returns invariant-loop decreases-loop
 returns c =
     let a = (start-from-at-loop c.before).args in
-    let q : c.before.loop-i.i ≡ (shelf a.t).servers = omega (arith, c.before.before.servers-s.ensures) in
-    rw q at c.before.loop-i.invariant.1
+    let q : c.loop-i.i ≡ (shelf a.t).servers = omega (arith, c.servers-s.ensures) in
+    rw q at c.loop-i.invariant.1
 
 pub put_list_spec : {M : Type 1} → statement M
 put_list_spec = tie.close (tie.spec invariant-loop decreases-loop (λ c κs. search rules) loop-holds put-entry-requires (λ c. search rules) (λ c. search rules)

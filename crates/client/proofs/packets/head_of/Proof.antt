@@ -8,6 +8,6 @@ returns : tie.Need-returns
 returns c = search rules
 
 pub head_of_spec : {M : Type 1} → statement M
-head_of_spec = tie.close (tie.spec (λ c. omega (arith, c.before.requires.0, c.before.requires.1.0, c.before.requires.1.1))
-    (λ c. omega (arith, c.before.requires.0, c.before.requires.1.0, c.before.requires.1.1))
-    (λ c. omega (arith, c.before.before.requires.0, c.before.before.requires.1.0, c.before.before.requires.1.1)) returns)
+head_of_spec = tie.close (tie.spec (λ c. omega (arith, c.requires.0, c.requires.1.0, c.requires.1.1))
+    (λ c. omega (arith, c.requires.0, c.requires.1.0, c.requires.1.1))
+    (λ c. omega (arith, c.requires.0, c.requires.1.0, c.requires.1.1)) returns)

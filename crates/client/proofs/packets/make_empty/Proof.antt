@@ -11,7 +11,7 @@ returns : tie.Need-returns
 returns c =
     let at-start = c.before.before.before.before.before.before.before in
     let a = at-start.args in
-    c.before.before.make_packet.ensures ∙ packet-fits a.head [] [] a.out.now at-start.requires (omega arith)
+    c.make_packet.ensures ∙ packet-fits a.head [] [] a.out.now at-start.requires (omega arith)
 
 pub make_empty_spec : {M : Type 1} → statement M
 make_empty_spec = tie.close (tie.spec (λ c. search rules) (λ c. search rules) (λ c κs. search rules) (λ c. search rules) returns)

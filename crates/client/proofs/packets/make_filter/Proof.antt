@@ -49,7 +49,7 @@ put-list-requires c κs =
 -- the count is what the bytes written tell
 count_is : (c : tie.After-put_byte-arg-1)
     → let at-put-list = put-list-from-put-byte-arg c in
-    (at-put-list.put_list-n.result - ((put-head-from-put-list at-put-list).put_head-a.result + 1)) / c.before.candidate_size-size.result ≡
+    (at-put-list.put_list-n.result - ((put-head-from-put-list at-put-list).put_head-a.result + 1)) / c.candidate_size-size.result ≡
     length (listed at-put-list)
 count_is c =
     let at-put-list = put-list-from-put-byte-arg c in
@@ -60,8 +60,8 @@ count_is c =
     let l = list_counted a.t a.kept.now p.0 p.1.0 p.1.1.0 (shelf a.t).servers (omega arith) in
     let d : at-put-list.put_list-n.result - ((put-head-from-put-list at-put-list).put_head-a.result + 1) ≡ w * length (listed at-put-list) =
     omega (arith, at-put-list.put_list-n.ensures.place, l) in
-    div-eq_of_eq-mul_right (omega (arith, c.before.candidate_size-size.ensures))
-    (d ∙ ap (λ (z : ℕ). z * length (listed at-put-list)) (sym c.before.candidate_size-size.ensures))
+    div-eq_of_eq-mul_right (omega (arith, c.candidate_size-size.ensures))
+    (d ∙ ap (λ (z : ℕ). z * length (listed at-put-list)) (sym c.candidate_size-size.ensures))
 
 cast-size : tie.Need-overflow_cast-t
 cast-size c = omega (arith, (start-from-put-head (put-head-from-put-list c.before.before)).requires.1.0)
@@ -70,7 +70,7 @@ sub-count : tie.Need-overflow_sub-n
 sub-count c = omega (arith, (put-list-from-put-byte-arg c).put_list-n.ensures.place)
 
 div-count : tie.Need-nonzero_div-n
-div-count c = omega (arith, c.before.candidate_size-size.ensures)
+div-count c = omega (arith, c.candidate_size-size.ensures)
 
 cast-count : tie.Need-overflow_cast-n
 cast-count c =
@@ -91,7 +91,7 @@ returns c =
     let l = list-room a.t a.kept.now p.0 p.1.0 p.1.1.0 (shelf a.t).servers (omega arith) in
     filter-made a.head a.out.now p.1.1.1 at-put-head.put_head-a.ensures (length (listed at-put-list))
     (print_many (candidate_f (shelf a.t)) (listed at-put-list)) (omega (arith, l, p.1.0)) at-put-list.put_list-n.ensures
-    (rw (count_is at_arg) at c.before.before.put_byte.ensures)
+    (rw (count_is at_arg) at c.put_byte.ensures)
 
 pub make_filter_spec : {M : Type 1} → statement M
 make_filter_spec = tie.close (tie.spec (λ c κs. search rules) add-b put-list-requires cast-size (λ c κs. search rules) sub-count div-count cast-count

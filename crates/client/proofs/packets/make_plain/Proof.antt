@@ -57,7 +57,7 @@ returns c =
     let q = round-bytes a.party.t a.party.client a.server a.call a.kept.now a.call.tally.round refl ∙ store_bytes
     a.party.t a.party.client
     a.server a.call a.kept.now a.call.tally.round at-match.in-2.keys1 p.1.1.0 p.1.1.1.0 in
-    (rw (at-match.before.head_of-head.ensures, at-match.before.before.request_kind.ensures) at c.before.before.make_store.ensures)
+    (rw (at-match.head_of-head.ensures, at-match.request_kind.ensures) at c.make_store.ensures)
     ∙ ap (λ (x : List ℕ). whole_packet x a.out.now) (sym q)
 
 returns-2 : tie.Need-returns-in-3
@@ -67,7 +67,7 @@ returns-2 c =
     let q = round-bytes a.party.t a.party.client a.server a.call a.kept.now a.call.tally.round refl ∙ chosen-bytes
     a.party.t a.party.client
     a.server a.call a.kept.now a.call.tally.round at-match.in-3.keys2 in
-    (rw (at-match.before.head_of-head.ensures, at-match.before.before.request_kind.ensures) at c.before.before.make_chosen.ensures)
+    (rw (at-match.head_of-head.ensures, at-match.request_kind.ensures) at c.make_chosen.ensures)
     ∙ ap (λ (x : List ℕ). whole_packet x a.out.now) (sym q)
 
 returns-3 : tie.Need-returns-in_default
@@ -82,7 +82,7 @@ returns-3 c =
     a.party.t a.party.client
     a.server a.call a.kept.now a.call.tally.round r.0 r.1 none.0.1 (λ e. none.1 (inl e)) p.1.1.1.1.1.1.1
     (λ e. none.1 (inr e)) in
-    (rw (at-match.before.head_of-head.ensures, at-match.before.before.request_kind.ensures) at c.before.before.make_empty.ensures)
+    (rw (at-match.head_of-head.ensures, at-match.request_kind.ensures) at c.make_empty.ensures)
     ∙ ap (λ (x : List ℕ). whole_packet x a.out.now) (sym q)
 
 pub make_plain_spec : {M : Type 1} → statement M

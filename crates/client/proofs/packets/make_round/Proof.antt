@@ -25,13 +25,13 @@ returns c =
     let at-start = at-head-of.before.before.before.before.before in
     let a = at-start.args in
     let p = at-start.requires in
-    let q = round-bytes a.party.t a.party.client a.server a.call a.kept.now 5 at-head-of.before.if-round-eq-FILTER.true ∙
+    let q = round-bytes a.party.t a.party.client a.server a.call a.kept.now 5 at-head-of.if-round-eq-FILTER.true ∙
     filter-bytes a.party.t a.party.client a.server a.call a.kept.now in
-    (rw at-head-of.head_of.ensures at c.before.before.make_filter.ensures) ∙ ap (λ (x : List ℕ). whole_packet x a.out.now) (sym q)
+    (rw at-head-of.head_of.ensures at c.make_filter.ensures) ∙ ap (λ (x : List ℕ). whole_packet x a.out.now) (sym q)
 
 make-plain-requires : tie.Need-make_plain-requires
 make-plain-requires c κs =
-    let p = c.before.before.before.before.before.requires in (
+    let p = c.requires in (
       p.1.0,
       (
         p.1.1.0,
@@ -41,7 +41,7 @@ make-plain-requires c κs =
             p.1.1.1.1.0,
             (
               p.1.1.1.1.1.0,
-              (p.1.1.1.1.1.1.0, (p.1.1.1.1.1.1.1, c.before.if-round-eq-FILTER.false)),
+              (p.1.1.1.1.1.1.0, (p.1.1.1.1.1.1.1, c.if-round-eq-FILTER.false)),
             ),
           ),
         ),

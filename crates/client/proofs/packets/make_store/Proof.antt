@@ -20,13 +20,13 @@ use Rattle.client.proofs.packets.make_store.Statement.{statement}
 use Rattle.client.proofs.packets.make_store.Tie as tie
 
 sub_part : tie.Need-overflow_sub-server
-sub_part c = omega (arith, c.before.before.before.requires.1.0)
+sub_part c = omega (arith, c.requires.1.0)
 
 mul-part : tie.Need-overflow_mul-server
-mul-part c = omega (arith, c.before.before.before.requires.1.0, c.before.before.before.requires.1.1.0)
+mul-part c = omega (arith, c.requires.1.0, c.requires.1.1.0)
 
 add-part : tie.Need-overflow_add-server
-add-part c = omega (arith, c.before.before.before.requires.1.0, c.before.before.before.requires.1.1.0)
+add-part c = omega (arith, c.requires.1.0, c.requires.1.1.0)
 
 -- Places far back, each named once: the place, and from where it is seen.
 abbrev start-from-part2 : tie.After-part-slot → tie.Start
@@ -43,7 +43,7 @@ returns c =
     let at-start = start-from-part2 at-part2 in
     let a = at-start.args in
     let p = at-start.requires in
-    let K : Bytes a.kept.now = λ k. (at-part2.before.before.before.shared_slice_known-1.given k).fits in
+    let K : Bytes a.kept.now = λ k. (at-part2.shared_slice_known-1.given k).fits in
     let i : ℕ = a.server - 1 in
     let D : List ℕ = bytes_at a.kept.now chosen_place candidate_slot in
     let E : List ℕ = bytes_at a.kept.now (replies_place + reply_slot * i) reply_slot in
@@ -54,13 +54,13 @@ returns c =
     let h = share_back (shelf a.t) E (bytes-part a.kept.now (replies_place + reply_slot * i) reply_slot K) (omega (arith, le)) in
     let m = part-most D 0 stamp_size in
     let n = part_short E (share_size_def (shelf a.t) (length_at E)) in
-    c.before.before.make_packet.ensures ∙ rw (
-      at-part4.before.part-stamp.ensures,
+    c.make_packet.ensures ∙ rw (
+      at-part4.part-stamp.ensures,
       at-part4.part-chosen.ensures,
-      at-part4.before.before.share_size-size.ensures,
-      at-part4.before.before.before.number2.ensures,
+      at-part4.share_size-size.ensures,
+      at-part4.number2.ensures,
       at-part2.part-slot.ensures,
-      at-part2.before.part-chosen.ensures,
+      at-part2.part-chosen.ensures,
     )
     (packet-fits a.head (bytes_at D 0 stamp_size) (bytes_at E 0 (share_size_def (shelf a.t) (length_at E))) a.out.now p.1.1.1.1
     (omega (arith, m, n, le))

@@ -8,12 +8,12 @@ use Rattle.client.proofs.prepare.prepare.Tie as tie
 returns : tie.Need-returns
 returns c =
     let at-stamp-bytes = c.before.before.before.before.before in
-    let at-start = at-stamp-bytes.before.before.before.before.before in
+    let at-start = at-stamp-bytes.before.before.before.before in
     let a = at-start.args in
     let p = at-start.requires in
-    c.before.before.put_tagged.ensures ∙ rw (
+    c.put_tagged.ensures ∙ rw (
       at-stamp-bytes.stamp_bytes-stamp.ensures,
-      at-stamp-bytes.before.before.nonce-nonce.ensures,
+      at-stamp-bytes.nonce-nonce.ensures,
     ) (offered-made a.party.t a.party.client a.writers.now a.keys.now a.call
     a.kept.now a.number)
 

@@ -9,7 +9,7 @@ use Rattle.client.proofs.prepare.put_candidate.Statement.{statement}
 use Rattle.client.proofs.prepare.put_candidate.Tie as tie
 
 write-at-requires : tie.Need-write_at-requires
-write-at-requires c κs = let p = c.before.before.before.before.before.requires in omega (arith, p.0, p.1.0)
+write-at-requires c κs = let p = c.requires in omega (arith, p.0, p.1.0)
 
 -- Places far back, each named once: the place, and from where it is seen.
 abbrev start-from-write-at : tie.After-write_at → tie.Start
@@ -29,7 +29,7 @@ returns c =
     let at-start = start-from-write-at at-write-at in
     let a = at-start.args in
     let p = at-start.requires in
-    c.before.before.write_at-3.ensures ∙ rw (
+    c.write_at-3.ensures ∙ rw (
       at-write-at2.write_at-2.ensures,
       at-write-at.write_at.ensures,
     )

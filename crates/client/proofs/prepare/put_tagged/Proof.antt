@@ -40,8 +40,8 @@ put-tags-from-part c = c.before.before.before.before
 abbrev run : tie.After-part-made → List ℕ
 run c =
     let at-put-tags = c.before.before.before.before in
-    let a = at-put-tags.before.before.before.before.before.before.args in
-    tag_run a.keys.now a.stamp.now at-put-tags.before.before.digest-digest.result (shelf a.t).servers
+    let a = at-put-tags.args in
+    tag_run a.keys.now a.stamp.now at-put-tags.digest-digest.result (shelf a.t).servers
 
 tags-back : (c : tie.After-part-made) →
     (length (run c) ≡ tag_size * (shelf (start-from-put-tags (put-tags-from-part c)).args.t).servers) × (c.part-made.result.now ≡ run c)
@@ -49,10 +49,10 @@ tags-back c =
     let at-put-tags = put-tags-from-part c in
     let at-start = start-from-put-tags at-put-tags in
     let a = at-start.args in
-    let l = tag-run-length a.keys.now a.stamp.now at-put-tags.before.before.digest-digest.result (shelf a.t).servers in (
+    let l = tag-run-length a.keys.now a.stamp.now at-put-tags.digest-digest.result (shelf a.t).servers in (
       l,
-      run_back (replicate (tag_size * most_servers) 0) (run c) (tag_size * c.before.servers.result) c.part-made.ensures
-          at-put-tags.put_tags.ensures (omega (arith, l, c.before.servers.ensures)) (omega (
+      run_back (replicate (tag_size * most_servers) 0) (run c) (tag_size * c.servers.result) c.part-made.ensures
+          at-put-tags.put_tags.ensures (omega (arith, l, c.servers.ensures)) (omega (
             arith,
             l,
             servers-few a.t at-start.requires.1.0,
@@ -72,9 +72,9 @@ put-write-requires c κs =
 returns : tie.Need-returns
 returns c =
     let at_part = c.before.before.before.before in
-    c.before.before.put_write.ensures ∙ rw (
+    c.put_write.ensures ∙ rw (
       (tags-back at_part).1,
-      at_part.before.before.before.before.before.before.digest-digest.ensures,
+      at_part.digest-digest.ensures,
     )
 
 pub put_tagged_spec : {M : Type 1} → statement M

@@ -30,7 +30,7 @@ returns c =
     let z = nonce-size at-start in
     let l = length-append a.stamp.now (a.nonce.bytes ++ a.tags.now) in
     let k = length-append a.nonce.bytes a.tags.now in
-    c.before.before.put_offer.ensures ∙ rw (
+    c.put_offer.ensures ∙ rw (
       at-put-candidate.put_candidate.ensures,
       content-stays a.call
           a.kept.now (a.stamp.now ++ (a.nonce.bytes ++ a.tags.now)) p.1.1.0 (omega

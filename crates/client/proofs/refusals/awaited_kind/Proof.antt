@@ -9,27 +9,27 @@ use Rattle.client.proofs.refusals.awaited_kind.Statement.{statement}
 use Rattle.client.proofs.refusals.awaited_kind.Tie as tie
 
 -- a call is in hand
-hand : (c : tie.Then-is_pending) → in_hand c.before.before.args.call ≡ true
-hand c = sym c.before.is_pending.ensures ∙ c.if-is_pending.true
+hand : (c : tie.Then-is_pending) → in_hand c.args.call ≡ true
+hand c = sym c.is_pending.ensures ∙ c.if-is_pending.true
 
 request-kind-requires : tie.Need-request_kind-requires
-request-kind-requires c κs = hand-round c.before.before.before.args.call (hand c.before)
+request-kind-requires c κs = hand-round c.args.call (hand c.before)
 
 add-result : tie.Need-overflow_add-result
 add-result c =
-    omega (arith, c.request_kind.ensures, hand-round c.before.before.before.before.args.call (hand c.before.before))
+    omega (arith, c.request_kind.ensures, hand-round c.args.call (hand c.before.before))
 
 returns : tie.Need-returns-then-is_pending
 unfolding awaited
 returns c =
     let e = c.request_kind.ensures in
-    let r = hand-round c.before.before.before.before.args.call (hand c.before.before) in
+    let r = hand-round c.args.call (hand c.before.before) in
     rw (hand c.before.before) (omega (arith, e, r))
 
 returns-2 : tie.Need-returns
 unfolding awaited
 returns-2 c =
-    let w = sym c.before.is_pending.ensures ∙ c.if-is_pending.false in
+    let w = sym c.is_pending.ensures ∙ c.if-is_pending.false in
     rw w
 
 pub awaited_kind_spec : {M : Type 1} → statement M

@@ -7,11 +7,11 @@ use borrow.Author.Rules.{rules}
 use Rattle.client.proofs.refusals.bad_client.Statement.{statement}
 use Rattle.client.proofs.refusals.bad_client.Tie as tie
 
-no_write : (c : tie.Then-outside) → of_write c.before.before.args.kind ≡ false
-no_write c = not-true _ (sym c.before.outside.ensures ∙ c.if-outside.true)
+no_write : (c : tie.Then-outside) → of_write c.args.kind ≡ false
+no_write c = not-true _ (sym c.outside.ensures ∙ c.if-outside.true)
 
-a_write : (c : tie.Else-outside) → of_write c.before.before.args.kind ≡ true
-a_write c = not-false _ (sym c.before.outside.ensures ∙ c.if-outside.false)
+a_write : (c : tie.Else-outside) → of_write c.args.kind ≡ true
+a_write c = not-false _ (sym c.outside.ensures ∙ c.if-outside.false)
 
 returns : tie.Need-returns-then-outside
 returns c = rw (no_write c.before) c.outside-then-outside.ensures

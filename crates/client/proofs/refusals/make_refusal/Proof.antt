@@ -14,40 +14,40 @@ use Rattle.client.proofs.refusals.make_refusal.Statement.{statement}
 use Rattle.client.proofs.refusals.make_refusal.Tie as tie
 
 -- the tests that do not apply
-past₁ : (c : tie.Else-outside) → bad_faults (shelf c.before.before.before.args.party.t) ≡ false
+past₁ : (c : tie.Else-outside) → bad_faults (shelf c.args.party.t) ≡ false
 unfolding shelf
-past₁ c = sym c.before.outside.ensures ∙ c.if-outside.false
+past₁ c = sym c.outside.ensures ∙ c.if-outside.false
 
 -- Places far back, each named once: the place, and from where it is seen.
 abbrev awaited-kind-from-else2 : tie.Else-outside-2 → tie.After-awaited_kind-kind
 awaited-kind-from-else2 c = c.before.before.before.before.before
 
-past₂ : (c : tie.Else-outside-2) → let a = (awaited-kind-from-else2 c).before.args in
+past₂ : (c : tie.Else-outside-2) → let a = (awaited-kind-from-else2 c).args in
     not (within 1 (shelf a.party.t).servers a.server) ≡ false
 unfolding shelf
-past₂ c = rw c.before.before.servers.ensures at (sym c.before.outside-2.ensures ∙ c.if-outside-2.false)
+past₂ c = rw c.servers.ensures at (sym c.outside-2.ensures ∙ c.if-outside-2.false)
 
-past₃ : (c : tie.Else-bad_client) → let a = (awaited-kind-from-else2 c.before.before).before.args in
+past₃ : (c : tie.Else-bad_client) → let a = (awaited-kind-from-else2 c.before.before).args in
     bad_client_def (of_write (awaited a.call)) a.party.client ≡ false
 past₃ c =
-    rw c.before.before.before.before.before.before.before.awaited_kind-kind.ensures at (sym c.before.bad_client.ensures ∙ c.if-bad_client.false)
+    rw c.awaited_kind-kind.ensures at (sym c.bad_client.ensures ∙ c.if-bad_client.false)
 
-past₄ : (c : tie.Else-kind-eq0) → eqb (awaited (awaited-kind-from-else2 c.before.before.before).before.args.call) 0 ≡ false
+past₄ : (c : tie.Else-kind-eq0) → eqb (awaited (awaited-kind-from-else2 c.before.before.before).args.call) 0 ≡ false
 past₄ c =
     let kind = (awaited-kind-from-else2 c.before.before.before).awaited_kind-kind.ensures in
     ne_eqb _ 0 (λ z. c.if-kind-eq0.false (kind ∙ z))
 
 returns : tie.Need-returns-then-outside
 unfolding make_refusal_def shelf
-returns c = rw (sym c.before.outside.ensures ∙ c.if-outside.true)
+returns c = rw (sym c.outside.ensures ∙ c.if-outside.true)
 
 servers-requires : tie.Need-servers-requires
 unfolding shelf
-servers-requires c κs = (inside 1 top_faults c.before.before.before.args.party.t (past₁ c)).1
+servers-requires c κs = (inside 1 top_faults c.args.party.t (past₁ c)).1
 
 returns-2 : tie.Need-returns-then-outside-2
 unfolding make_refusal_def shelf
-returns-2 c = rw (past₁ c.before.before.before, rw c.before.before.servers.ensures at (sym c.before.outside-2.ensures ∙ c.if-outside-2.true))
+returns-2 c = rw (past₁ c.before.before.before, rw c.servers.ensures at (sym c.outside-2.ensures ∙ c.if-outside-2.true))
 
 returns-3 : tie.Need-returns-then-bad_client
 unfolding make_refusal_def shelf
@@ -56,7 +56,7 @@ returns-3 c =
     rw (
       past₁ at-else2.before.before.before,
       past₂ c.before.before,
-      rw at-else2.before.before.before.before.before.awaited_kind-kind.ensures at (sym c.before.bad_client.ensures ∙ c.if-bad_client.true),
+      rw at-else2.awaited_kind-kind.ensures at (sym c.bad_client.ensures ∙ c.if-bad_client.true),
     )
 
 returns-4 : tie.Need-returns-then-kind-eq0

@@ -13,30 +13,30 @@ use Rattle.client.proofs.refusals.write_refusal.Statement.{statement}
 use Rattle.client.proofs.refusals.write_refusal.Tie as tie
 
 -- the tests that do not apply
-past₁ : (c : tie.Else-outside) → bad_faults (shelf c.before.before.args.party.t) ≡ false
+past₁ : (c : tie.Else-outside) → bad_faults (shelf c.args.party.t) ≡ false
 unfolding shelf
-past₁ c = sym c.before.outside.ensures ∙ c.if-outside.false
+past₁ c = sym c.outside.ensures ∙ c.if-outside.false
 
-past₂ : (c : tie.Else-outside-2) → not (within 1 top_writer c.before.before.before.before.args.party.client) ≡ false
-past₂ c = sym c.before.outside-2.ensures ∙ c.if-outside-2.false
+past₂ : (c : tie.Else-outside-2) → not (within 1 top_writer c.args.party.client) ≡ false
+past₂ c = sym c.outside-2.ensures ∙ c.if-outside-2.false
 
 -- Places far back, each named once: the place, and from where it is seen.
 abbrev else1-from-else3 : tie.Else-n-gt-TOP_LENGTH → tie.Else-outside
 else1-from-else3 c = c.before.before.before
 
-past₃ : (c : tie.Else-n-gt-TOP_LENGTH) → ltb top_length (else1-from-else3 c).before.before.args.n ≡ false
+past₃ : (c : tie.Else-n-gt-TOP_LENGTH) → ltb top_length (else1-from-else3 c).args.n ≡ false
 past₃ c = le-ltb _ _ c.if-n-gt-TOP_LENGTH.false
 
-past₄ : (c : tie.Else-is_pending) → in_hand (else1-from-else3 c.before.before).before.before.args.call ≡ false
-past₄ c = sym c.before.is_pending.ensures ∙ c.if-is_pending.false
+past₄ : (c : tie.Else-is_pending) → in_hand (else1-from-else3 c.before.before).args.call ≡ false
+past₄ c = sym c.is_pending.ensures ∙ c.if-is_pending.false
 
 returns : tie.Need-returns-then-outside
 unfolding write_refusal_def shelf
-returns c = rw (sym c.before.outside.ensures ∙ c.if-outside.true)
+returns c = rw (sym c.outside.ensures ∙ c.if-outside.true)
 
 returns-2 : tie.Need-returns-then-outside-2
 unfolding write_refusal_def shelf
-returns-2 c = rw (past₁ c.before.before, sym c.before.outside-2.ensures ∙ c.if-outside-2.true)
+returns-2 c = rw (past₁ c.before.before, sym c.outside-2.ensures ∙ c.if-outside-2.true)
 
 returns-3 : tie.Need-returns-then-n-gt-TOP_LENGTH
 unfolding write_refusal_def shelf
@@ -50,7 +50,7 @@ returns-4 c =
       past₁ at-else3.before.before.before,
       past₂ at-else3.before,
       past₃ c.before.before,
-      sym c.before.is_pending.ensures ∙ c.if-is_pending.true,
+      sym c.is_pending.ensures ∙ c.if-is_pending.true,
     )
 
 returns-5 : tie.Need-returns-then-call-ge-TOP_NUMBER
@@ -63,7 +63,7 @@ returns-5 c =
       past₂ at-else3.before,
       past₃ at-else3,
       past₄ c.before.before,
-      le-leb top_number at-else1.before.before.args.call.number (omega arith),
+      le-leb top_number at-else1.args.call.number (omega arith),
     )
 
 returns-6 : tie.Need-returns
@@ -76,7 +76,7 @@ returns-6 c =
       past₂ at-else3.before,
       past₃ at-else3,
       past₄ c.before.before,
-      lt-leb top_number at-else1.before.before.args.call.number (omega arith),
+      lt-leb top_number at-else1.args.call.number (omega arith),
     )
 
 pub write_refusal_spec : {M : Type 1} → statement M

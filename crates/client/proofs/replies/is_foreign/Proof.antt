@@ -5,18 +5,18 @@ use Rattle.client.proofs.replies.is_foreign.Statement.{statement}
 use Rattle.client.proofs.replies.is_foreign.Tie as tie
 
 returns : tie.Need-returns-then-head-party
-returns c = let a = c.before.before.before.args in rw (ne_eqb a.head.t a.party.t c.if-head-party.true)
+returns c = let a = c.args in rw (ne_eqb a.head.t a.party.t c.if-head-party.true)
 
 returns-2 : tie.Need-returns-then-head-party-2
-returns-2 c = let a = c.before.before.before.before.before.before.args in rw (
-  eq-eqb a.head.t a.party.t c.before.before.before.if-head-party.false,
+returns-2 c = let a = c.args in rw (
+  eq-eqb a.head.t a.party.t c.if-head-party.false,
   ne_eqb
       a.head.client a.party.client c.if-head-party-2.true,
 )
 
 returns-3 : tie.Need-returns
-returns-3 c = let a = c.before.before.before.before.before.before.args in rw (
-  eq-eqb a.head.t a.party.t c.before.before.before.if-head-party.false,
+returns-3 c = let a = c.args in rw (
+  eq-eqb a.head.t a.party.t c.if-head-party.false,
   eq-eqb
       a.head.client a.party.client c.if-head-party-2.false,
 )

@@ -5,18 +5,18 @@ use Rattle.client.proofs.replies.is_other.Statement.{statement}
 use Rattle.client.proofs.replies.is_other.Tie as tie
 
 returns : tie.Need-returns-then-head-call
-returns c = let a = c.before.before.before.args in rw (ne_eqb a.head.call a.call.number c.if-head-call.true)
+returns c = let a = c.args in rw (ne_eqb a.head.call a.call.number c.if-head-call.true)
 
 returns-2 : tie.Need-returns-then-head-kind
-returns-2 c = let a = c.before.before.before.before.before.args in rw (
-  eq-eqb a.head.call a.call.number c.before.before.if-head-call.false,
+returns-2 c = let a = c.args in rw (
+  eq-eqb a.head.call a.call.number c.if-head-call.false,
   ne_eqb a.head.kind a.kind c.if-head-kind.true,
 )
 
 returns-3 : tie.Need-returns
-returns-3 c = let a = c.before.before.before.before.before.before.args in rw (
-  eq-eqb a.head.call a.call.number c.before.before.before.if-head-call.false,
-  eq-eqb a.head.kind a.kind c.before.if-head-kind.false,
+returns-3 c = let a = c.args in rw (
+  eq-eqb a.head.call a.call.number c.if-head-call.false,
+  eq-eqb a.head.kind a.kind c.if-head-kind.false,
   c.is_marked.ensures,
 )
 

@@ -24,33 +24,33 @@ loop-holds : tie.Need-loop-i-init invariant-loop decreases-loop
 loop-holds c = (omega arith, sym (count_none _))
 
 one-is : (c : tie.After-one_for-c invariant-loop decreases-loop)
-    → c.one_for-c.result ≡ bit (marked c.before.before.before.args.marks (suc c.before.before.loop-i.i))
+    → c.one_for-c.result ≡ bit (marked c.args.marks (suc c.loop-i.i))
 unfolding marked
-one-is c = c.one_for-c.ensures ∙ as-bit (not (eqb (get_or c.before.before.before.args.marks c.before.before.loop-i.i 0) 0))
+one-is c = c.one_for-c.ensures ∙ as-bit (not (eqb (get_or c.args.marks c.loop-i.i 0) 0))
   where
     as-bit : (b : Bool) → cond b 1 0 ≡ bit b
     as-bit true = refl
     as-bit false = refl
 
 one-le : (c : tie.After-one_for-c invariant-loop decreases-loop) → c.one_for-c.result ≤ 1
-one-le c = omega (arith, one-is c, bit_le (marked c.before.before.before.args.marks (suc c.before.before.loop-i.i)))
+one-le c = omega (arith, one-is c, bit_le (marked c.args.marks (suc c.loop-i.i)))
 
 add-c : tie.Need-overflow_add-c invariant-loop decreases-loop
 add-c c =
-    let l = c.before.before.loop-i in
-    let a = c.before.before.before.args in
-    omega (arith, l.invariant.1, l.invariant.0, count-le l.i (marked a.marks), one-le c, c.before.before.before.requires)
+    let l = c.loop-i in
+    let a = c.args in
+    omega (arith, l.invariant.1, l.invariant.0, count-le l.i (marked a.marks), one-le c, c.requires)
 
 loop-again : tie.Need-loop-i-preserved invariant-loop decreases-loop
 loop-again c =
-    let l = c.before.before.loop-i in
-    let a = c.before.before.before.args in
+    let l = c.loop-i in
+    let a = c.args in
     (omega arith, omega (arith, l.invariant.1, count_more l.i (marked a.marks), one-is c))
 
 returns : tie.Need-returns invariant-loop decreases-loop
 returns c =
-    let l = c.before.loop-i in
-    let e : l.i ≡ c.before.before.args.n = omega arith in
+    let l = c.loop-i in
+    let e : l.i ≡ c.args.n = omega arith in
     l.invariant.1 ∙ rw e
 
 pub count_spec : {M : Type 1} → statement M

@@ -4,7 +4,7 @@ use Rattle.client.proofs.rounds.is_full.Statement.{statement}
 use Rattle.client.proofs.rounds.is_full.Tie as tie
 
 returns : tie.Need-returns
-returns c = rw c.before.quorum.ensures
+returns c = rw c.quorum.ensures
 
 pub is_full_spec : {M : Type 1} → statement M
 is_full_spec = tie.close (tie.spec (λ c κs. search rules) (λ c. search rules) returns)

@@ -9,8 +9,8 @@ use Rattle.client.proofs.rounds.note.Tie as tie
 
 returns : tie.Need-returns
 returns c =
-    let a = c.before.args in
-    let p = c.before.requires in
+    let a = c.args in
+    let p = c.requires in
     let w : length a.tally.marks ≡ 13 = search rules in
     c.recount.ensures ∙ noted_is a.t a.tally a.server p.1.0 (omega (arith, p.1.1))
 

@@ -9,7 +9,7 @@ use Rattle.client.proofs.rounds.quorum.Tie as tie
 
 sub-result : tie.Need-overflow_sub-result
 unfolding shelf
-sub-result c = let e : c.servers.result ≡ 3 * c.before.args.t + 1 = c.servers.ensures in omega arith
+sub-result c = let e : c.servers.result ≡ 3 * c.args.t + 1 = c.servers.ensures in omega arith
 
 returns : tie.Need-returns
 unfolding shelf quorum

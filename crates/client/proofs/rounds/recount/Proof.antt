@@ -11,12 +11,12 @@ use Rattle.client.proofs.rounds.recount.Tie as tie
 count-requires : tie.Need-count-requires
 unfolding shelf
 count-requires c κs =
-    let e : c.servers.result ≡ 3 * c.before.before.args.t + 1 = c.servers.ensures in
-    omega (arith, c.before.before.requires)
+    let e : c.servers.result ≡ 3 * c.args.t + 1 = c.servers.ensures in
+    omega (arith, c.requires)
 
 returns : tie.Need-returns
 unfolding counted
-returns c = rw (c.count.ensures, c.before.servers.ensures)
+returns c = rw (c.count.ensures, c.servers.ensures)
 
 pub recount_spec : {M : Type 1} → statement M
 recount_spec = tie.close (tie.spec (λ c κs. search rules) count-requires returns)

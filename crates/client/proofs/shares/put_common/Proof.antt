@@ -29,7 +29,7 @@ returns c =
     let at-start = start-from-write-at at-write-at in
     let a = at-start.args in
     let z : length a.digest ≡ digest_size = search rules in
-    c.before.before.write_at-2.ensures ∙ rw at-write-at.write_at.ensures
+    c.write_at-2.ensures ∙ rw at-write-at.write_at.ensures
     (put_put a.common.now a.at digest_size a.digest a.tags.now z at-start.requires)
 
 pub put_common_spec : {M : Type 1} → statement M

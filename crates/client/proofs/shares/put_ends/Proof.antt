@@ -21,7 +21,7 @@ decreases-loop kept₀ t n common f at s i₀ kept i = s - i
 
 loop-holds : tie.Need-loop-i-init invariant-loop decreases-loop
 unfolding slot_run
-loop-holds c = (omega arith, (refl, c.before.before.before.before.requires.1.1.0))
+loop-holds c = (omega arith, (refl, c.requires.1.1.0))
 
 -- Places far back, each named once: the place, and from where it is seen.
 abbrev start-from-at-loop : tie.At-loop-i invariant-loop decreases-loop → tie.Start invariant-loop decreases-loop
@@ -30,41 +30,41 @@ start-from-at-loop c = c.before.before.before.before.before
 -- one more server's end fits its slot
 room : (c : tie.In-loop-i invariant-loop decreases-loop)
     → let at-loop = c.before in
-    (suc at-loop.loop-i.i ≤ most_servers) × (2 + at-loop.before.before.fragment_size-f.result + length (start-from-at-loop at-loop).args.common.now
+    (suc at-loop.loop-i.i ≤ most_servers) × (2 + at-loop.fragment_size-f.result + length (start-from-at-loop at-loop).args.common.now
     ≤ reply_slot)
 room c =
     let at-start = start-from-at-loop c.before in
     let p = at-start.requires in (
-      omega (arith, c.loop-i-test.true, c.before.before.servers-s.ensures, servers-few at-start.args.t p.0),
-      omega (arith, c.before.before.before.fragment_size-f.ensures, p.1.1.1),
+      omega (arith, c.loop-i-test.true, c.servers-s.ensures, servers-few at-start.args.t p.0),
+      omega (arith, c.fragment_size-f.ensures, p.1.1.1),
     )
 
 write-at-requires : tie.Need-write_at-requires invariant-loop decreases-loop
-write-at-requires c κs = omega (arith, room c.before, c.before.before.loop-i.invariant.1.1)
+write-at-requires c κs = omega (arith, room c.before, c.loop-i.invariant.1.1)
 
 loop-again : tie.Need-loop-i-preserved invariant-loop decreases-loop
 loop-again c =
     let at-loop = c.before.before.before.before.before in
     let a = (start-from-at-loop at-loop).args in
     let v = at-loop.loop-i.invariant in
-    let e = c.before.before.write_at.ensures in (
+    let e = c.write_at.ensures in (
       omega arith,
       (
-        e ∙ slots_more reply_slot (replies_place + (2 + at-loop.before.before.fragment_size-f.result)) (λ _. a.common.now) a.kept.now
+        e ∙ slots_more reply_slot (replies_place + (2 + at-loop.fragment_size-f.result)) (λ _. a.common.now) a.kept.now
             at-loop.loop-i.i v.1.0 refl,
-        (let z : length c.before.before.write_at.new.0 ≡ length at-loop.loop-i.auto = search rules in z ∙ v.1.1),
+        (let z : length c.write_at.new.0 ≡ length at-loop.loop-i.auto = search rules in z ∙ v.1.1),
       ),
     )
 
 same_length : tie.Need-shape_of-kept invariant-loop decreases-loop
-same_length c = c.before.loop-i.invariant.1.1 ∙ sym (start-from-at-loop c.before).requires.1.1.0
+same_length c = c.loop-i.invariant.1.1 ∙ sym (start-from-at-loop c.before).requires.1.1.0
 
 returns : tie.Need-returns invariant-loop decreases-loop
 returns c =
     let a = (start-from-at-loop c.before).args in
-    let q : c.before.loop-i.i ≡ (shelf a.t).servers = omega (arith, c.before.before.servers-s.ensures) in
-    (rw q at c.before.loop-i.invariant.1.0) ∙ ap (λ (k : ℕ). slot_run reply_slot a.kept.now (replies_place + (2 + k)) (λ _. a.common.now)
-    (shelf a.t).servers) c.before.before.before.fragment_size-f.ensures
+    let q : c.loop-i.i ≡ (shelf a.t).servers = omega (arith, c.servers-s.ensures) in
+    (rw q at c.loop-i.invariant.1.0) ∙ ap (λ (k : ℕ). slot_run reply_slot a.kept.now (replies_place + (2 + k)) (λ _. a.common.now)
+    (shelf a.t).servers) c.fragment_size-f.ensures
 
 pub put_ends_spec : {M : Type 1} → statement M
 put_ends_spec = tie.close (tie.spec invariant-loop decreases-loop (λ c. search rules) (λ c. search rules) (λ c κs. search rules) (λ c. search rules) (λ c. search rules)

@@ -16,7 +16,7 @@ use Rattle.client.proofs.shares.put_fragment.Tie as tie
 
 -- Places far back, each named once: the place, and from where it is seen.
 abbrev start-from-content : tie.After-content-content → tie.Start
-start-from-content c = c.before.before.before.before
+start-from-content c = c.before.before.before
 
 abbrev content-from-part : tie.After-part-fragment → tie.After-content-content
 content-from-part c = c.before.before.before.before
@@ -35,8 +35,8 @@ made c =
     let r = content_of a.call a.kept.now in
     let k = content_short a.call a.kept.now in
     let e : c.part-fragment.result.now ≡ fragment (shelf a.t).points (shelf a.t).threshold r (suc a.i) =
-    c.part-fragment.ensures ∙ fragment-cut a.t a.i r p.0 p.1.0 p.1.1.0 k c.before.before.before.fragment-made.result
-    (rw at-content.content-content.ensures.0 at c.before.before.before.fragment-made.ensures) in
+    c.part-fragment.ensures ∙ fragment-cut a.t a.i r p.0 p.1.0 p.1.1.0 k c.fragment-made.result
+    (rw at-content.content-content.ensures.0 at c.fragment-made.ensures) in
     (e, ap length e ∙ piece-length a.t a.i r p.0 p.1.0 p.1.1.0 k)
 
 few : (c : tie.Start) → suc c.args.i ≤ most_servers
@@ -63,9 +63,9 @@ returns c =
     let at-start = start-from-content at-content in
     let a = at-start.args in
     let m = made at_part in (
-      c.before.before.put_start.ensures ∙ ap (put a.kept.now (replies_place + reply_slot * a.i)) (start-made a.t
+      c.put_start.ensures ∙ ap (put a.kept.now (replies_place + reply_slot * a.i)) (start-made a.t
           (content_of a.call a.kept.now) (suc a.i) at-content.content-content.ensures.0 m.0),
-      at-slice-known3.before.before.write_at.ensures ∙ rw (at-slice-known3.before.before.before.before.before.digest-digest.ensures, m.0),
+      at-slice-known3.write_at.ensures ∙ rw (at-slice-known3.digest-digest.ensures, m.0),
     )
 
 pub put_fragment_spec : {M : Type 1} → statement M

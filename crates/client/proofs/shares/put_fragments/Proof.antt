@@ -28,7 +28,7 @@ decreases-loop kept₀ digests₀ call t s i₀ kept digests i = s - i
 
 loop-holds : tie.Need-loop-i-init invariant-loop decreases-loop
 unfolding slot_run digest_run run_of
-loop-holds c = (omega arith, (refl, put_none c.before.before.before.args.digests.now))
+loop-holds c = (omega arith, (refl, put_none c.args.digests.now))
 
 -- Places far back, each named once: the place, and from where it is seen.
 abbrev start-from-at-loop : tie.At-loop-i invariant-loop decreases-loop → tie.Start invariant-loop decreases-loop
@@ -46,7 +46,7 @@ stay c =
     let v = c.loop-i.invariant in
     let r = content_of a.call a.kept.now in
     let k = content_short a.call a.kept.now in
-    let w : i ≤ (shelf a.t).servers = omega (arith, v.0, c.before.servers-s.ensures) in (
+    let w : i ≤ (shelf a.t).servers = omega (arith, v.0, c.servers-s.ensures) in (
       ap length v.1.0 ∙ (slots_length reply_slot replies_place (start_of a.t r) a.kept.now i
           (starts-end a.t r p.0 p.1.0 k a.kept.now i p.1.1.0 w) ∙ p.1.1.0),
       ap length v.1.1 ∙ put-length a.digests.now 0 (digest_run a.t r i) (digests-room a.t r i a.digests.now w p.1.1.1),
@@ -54,8 +54,8 @@ stay c =
     )
 
 -- one more server
-next : (c : tie.In-loop-i invariant-loop decreases-loop) → suc c.before.loop-i.i ≤ (shelf (start-from-at-loop c.before).args.t).servers
-next c = omega (arith, c.loop-i-test.true, c.before.before.servers-s.ensures)
+next : (c : tie.In-loop-i invariant-loop decreases-loop) → suc c.loop-i.i ≤ (shelf (start-from-at-loop c.before).args.t).servers
+next c = omega (arith, c.loop-i-test.true, c.servers-s.ensures)
 
 put-fragment-requires : tie.Need-put_fragment-requires invariant-loop decreases-loop
 put-fragment-requires c κs =
@@ -86,8 +86,8 @@ loop-again c =
 
 returns : tie.Need-returns invariant-loop decreases-loop
 returns c =
-    let q : c.before.loop-i.i ≡ (shelf (start-from-at-loop c.before).args.t).servers = omega (arith, c.before.before.servers-s.ensures) in
-    (rw q at c.before.loop-i.invariant.1.0, rw q at c.before.loop-i.invariant.1.1)
+    let q : c.loop-i.i ≡ (shelf (start-from-at-loop c.before).args.t).servers = omega (arith, c.servers-s.ensures) in
+    (rw q at c.loop-i.invariant.1.0, rw q at c.loop-i.invariant.1.1)
 
 pub put_fragments_spec : {M : Type 1} → statement M
 put_fragments_spec = tie.close (tie.spec invariant-loop decreases-loop (λ c κs. search rules) loop-holds put-fragment-requires (λ c. search rules) (λ c. search rules)

@@ -20,7 +20,7 @@ digest-size c = search rules
 
 put-parts-requires : tie.Need-put_parts-requires
 put-parts-requires c κs =
-    let at-start = c.before.before.before.before.before.before in
+    let at-start = c.before.before.before.before.before in
     let p = at-start.requires in
     (p.0, (p.1.0, (p.1.1.0, omega (arith, servers-few at-start.args.t p.1.0, p.1.1.1))))
 
@@ -29,7 +29,7 @@ abbrev content-from-put-parts : tie.After-put_parts → tie.After-content-n
 content-from-put-parts c = c.before.before.before
 
 abbrev start-from-content : tie.After-content-n → tie.Start
-start-from-content c = c.before.before.before.before
+start-from-content c = c.before.before.before
 
 abbrev put-parts-from-servers : tie.After-servers → tie.After-put_parts
 put-parts-from-servers c = c.before.before.before.before
@@ -56,11 +56,11 @@ back c =
     let a = at-start.args in
     let p = at-start.requires in
     let r = content_of a.call a.kept.now in
-    let s = c.before.before.before.servers.ensures in
+    let s = c.servers.ensures in
     let l = common-length a.t r p.0 p.1.0 (content_short a.call a.kept.now) a.digest a.tags.now (digest-size at-start)
     p.1.1.1 in
     run_back (replicate common_room 0) (digest_run a.t r (shelf a.t).servers ++ (a.digest ++ a.tags.now))
-    (digest_size * c.before.before.before.servers.result + digest_size + length a.tags.now) c.part.ensures
+    (digest_size * c.servers.result + digest_size + length a.tags.now) c.part.ensures
     at-put-parts.put_parts.ensures.1 (omega (arith, s, l, p.1.1.1))
     (omega (arith, l, servers-few a.t p.1.0, length-replicate {A = ℕ} common_room 0))
 
@@ -85,7 +85,7 @@ returns c =
     let at-start = start-from-content at-content in
     let a = at-start.args in
     let p = at-start.requires in
-    c.before.before.put_ends.ensures ∙ offered-run a.t (content_of a.call a.kept.now) p.0 p.1.0
+    c.put_ends.ensures ∙ offered-run a.t (content_of a.call a.kept.now) p.0 p.1.0
     (content_short a.call a.kept.now) a.digest a.tags.now (digest-size at-start) p.1.1.1 a.kept.now p.1.1.0
     at-put-parts.put_parts.ensures.0 at-content.content-n.ensures.0 (back at_part)
 

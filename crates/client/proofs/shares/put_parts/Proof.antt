@@ -39,7 +39,7 @@ returns c =
     let f = at-put-fragments.put_fragments.ensures in
     let l = length-append a.digest a.tags.now in (
       f.0,
-      c.before.before.put_common.ensures ∙ rw (at-servers.servers.ensures, f.1)
+      c.put_common.ensures ∙ rw (at-servers.servers.ensures, f.1)
           (digests_then a.t (content_of a.call a.kept.now) a.common.now (a.digest ++ a.tags.now) (shelf a.t).servers
           (omega (arith, digest-size at-start, l, at-start.requires.1.1.1))),
     )

@@ -12,7 +12,7 @@ returns c =
     let at-bytes2 = at-write-at.before.before.before in
     let at-start = at-bytes2.before.before.before in
     let a = at-start.args in
-    c.before.before.write_at-2.ensures ∙ rw (at-write-at.write_at.ensures, at-bytes2.bytes2-size.ensures)
+    c.write_at-2.ensures ∙ rw (at-write-at.write_at.ensures, at-bytes2.bytes2-size.ensures)
     (put_put a.kept.now a.at 2 (print2 a.n) a.fragment.now refl at-start.requires.1)
 
 pub put_start_spec : {M : Type 1} → statement M

@@ -19,8 +19,8 @@ returns c =
     sym (stays-low a.writers.now a.body.now a.high (rw e at c.if-number-high.true))
 
 -- the number is higher, and the tags compared are the stamp's and the one that the writers' key gives
-up : (c : tie.Else-number-high) → c.before.before.args.high < (stamp_at_def c.before.before.args.body.now).number
-up c = let e = c.before.before.requires.1 in rw e at c.if-number-high.false
+up : (c : tie.Else-number-high) → c.args.high < (stamp_at_def c.args.body.now).number
+up c = let e = c.requires.1 in rw e at c.if-number-high.false
 
 -- Places far back, each named once: the place, and from where it is seen.
 abbrev shared-slice-known-from-part : tie.After-part → tie.After-shared_slice_known-1
@@ -31,12 +31,12 @@ part-from-compared c = c.before.before.before.before
 
 tags : (c : tie.After-same_throughout)
     → let at_part = c.before.before.before.before in
-    let a = at_part.before.before.before.before.args in
+    let a = at_part.args in
     c.same_throughout.result ≡ same_list (bytes_at a.body.now 5 tag_size) (tag_of a.writers.now (bytes_at a.body.now 0 5))
 tags c = c.same_throughout.ensures ∙ rw (
-  c.before.before.part-2.ensures,
-  c.before.before.before.tag-tag.ensures,
-  c.before.before.before.before.part.ensures,
+  c.part-2.ensures,
+  c.tag-tag.ensures,
+  c.part.ensures,
 )
 
 returns-2 : tie.Need-returns-then-same_throughout

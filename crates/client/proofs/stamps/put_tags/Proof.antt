@@ -24,7 +24,7 @@ decreases-loop tags₀ t keys stamp digest s i₀ tags i = s - i
 
 loop-holds : tie.Need-loop-i-init invariant-loop decreases-loop
 unfolding tag_run run_of
-loop-holds c = (omega arith, put_none c.before.before.before.args.tags.now)
+loop-holds c = (omega arith, put_none c.args.tags.now)
 
 -- Places far back, each named once: the place, and from where it is seen.
 abbrev start-from-at-loop : tie.At-loop-i invariant-loop decreases-loop → tie.Start invariant-loop decreases-loop
@@ -33,14 +33,14 @@ start-from-at-loop c = c.before.before.before.before
 -- there are few servers, the tags so far have room, and the buffer keeps its length
 room : (c : tie.At-loop-i invariant-loop decreases-loop)
     → let a = (start-from-at-loop c).args in
-    (c.before.servers-s.result ≤ most_servers) × (tag_size * c.before.servers-s.result ≤ length a.tags.now) ×
+    (c.servers-s.result ≤ most_servers) × (tag_size * c.servers-s.result ≤ length a.tags.now) ×
     (length c.loop-i.tags ≡ length a.tags.now)
 room c =
     let at-start = start-from-at-loop c in
     let a = at-start.args in
     let p = at-start.requires in
-    let e = c.before.servers-s.ensures in
-    let l : tag_size * c.before.servers-s.result ≤ length a.tags.now = omega (arith, e, p.1) in (
+    let e = c.servers-s.ensures in
+    let l : tag_size * c.servers-s.result ≤ length a.tags.now = omega (arith, e, p.1) in (
       omega (arith, e, servers-few a.t p.0),
       l,
       ap length c.loop-i.invariant.1 ∙ put-length a.tags.now 0 (tag_run a.keys.now a.stamp.now a.digest c.loop-i.i)
@@ -49,28 +49,28 @@ room c =
 
 write-at-requires : tie.Need-write_at-requires invariant-loop decreases-loop
 write-at-requires c κs =
-    let g : length c.before.before.tag_with-tag.result ≡ tag_size = search rules in
+    let g : length c.tag_with-tag.result ≡ tag_size = search rules in
     omega (arith, room c.before.before.before.before.before, g)
 
 loop-again : tie.Need-loop-i-preserved invariant-loop decreases-loop
 loop-again c =
     let at-tag-with = c.before.before.before.before.before in
-    let a = at-tag-with.before.before.before.before.before.before.before.args in
-    let i = at-tag-with.before.before.before.loop-i.i in
+    let a = at-tag-with.args in
+    let i = at-tag-with.loop-i.i in
     let k = key_at a.keys.now i in (
       omega arith,
-      c.before.before.write_at.ensures
+      c.write_at.ensures
           ∙ rw (
-            at-tag-with.before.before.before.loop-i.invariant.1,
+            at-tag-with.loop-i.invariant.1,
             at-tag-with.tag_with-tag.ensures,
           ) (tag_more a.tags.now a.keys.now a.stamp.now a.digest i _ k (omega (arith, room at-tag-with.before.before.before))),
     )
 
 returns : tie.Need-returns invariant-loop decreases-loop
 returns c =
-    let a = c.before.before.before.before.before.args in
-    let q : c.before.loop-i.i ≡ (shelf a.t).servers = omega (arith, c.before.before.servers-s.ensures) in
-    rw q at c.before.loop-i.invariant.1
+    let a = c.args in
+    let q : c.loop-i.i ≡ (shelf a.t).servers = omega (arith, c.servers-s.ensures) in
+    rw q at c.loop-i.invariant.1
 
 pub put_tags_spec : {M : Type 1} → statement M
 put_tags_spec = tie.close (tie.spec invariant-loop decreases-loop (λ c κs. search rules) loop-holds (λ c. omega (arith, room c.before))

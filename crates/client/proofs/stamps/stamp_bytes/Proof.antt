@@ -18,17 +18,17 @@ unfolding stamp_message_def real
 returns c =
     let at-write-at = c.before.before.before.before.before in
     let at-stamp-message = at-write-at.before.before.before.before.before.before in
-    let z = c.before.write_at-2.ensures in
+    let z = c.write_at-2.ensures in
     let y = at-write-at.write_at.ensures in
     let m = at-stamp-message.stamp_message-message.ensures in
-    let g = at-write-at.before.before.before.tag-tag.ensures in
+    let g = at-write-at.tag-tag.ensures in
     let lm : length at-stamp-message.stamp_message-message.result ≡ 5 = ap length m in
-    let lg : length at-write-at.before.before.before.tag-tag.result ≡ tag_size = ap length g ∙ real-lengths.tag _ _ in
+    let lg : length at-write-at.tag-tag.result ≡ tag_size = ap length g ∙ real-lengths.tag _ _ in
     let lz : length {A = ℕ} (replicate (5 + tag_size) 0) ≡ 5 + tag_size = refl in
-    let a = at-stamp-message.before.args in
+    let a = at-stamp-message.args in
     let M : List ℕ = at-stamp-message.stamp_message-message.result in
-    let G : List ℕ = at-write-at.before.before.before.tag-tag.result in
-    let v : c.before.write_at-2.new.0 ≡ M ++ G = z ∙ (ap (λ (x : List ℕ). put x 5 G) y ∙ two_puts (replicate (5 + tag_size) 0) M G 5 lm
+    let G : List ℕ = at-write-at.tag-tag.result in
+    let v : c.write_at-2.new.0 ≡ M ++ G = z ∙ (ap (λ (x : List ℕ). put x 5 G) y ∙ two_puts (replicate (5 + tag_size) 0) M G 5 lm
     (omega (arith, lm, lg, lz))) in
     let q : M ++ G ≡ stamp_message_def a.number a.writer ++ tag_of a.writers.now (stamp_message_def a.number a.writer) = rw (g, m) in
     v ∙ q

@@ -20,8 +20,8 @@ returns : tie.Need-returns
 unfolding stamp_message_def
 returns c =
     let at-put-number4 = c.before.before.before.before in
-    let a = at-put-number4.before.before.args in
-    (placed_then (print4 a.number) (a.writer ∷ []) at-put-number4.put_number4-n.ensures c.before.put_byte.ensures (omega arith)).bytes
+    let a = at-put-number4.args in
+    (placed_then (print4 a.number) (a.writer ∷ []) at-put-number4.put_number4-n.ensures c.put_byte.ensures (omega arith)).bytes
     ∙ over_zeros a.number a.writer
 
 pub stamp_message_spec : {M : Type 1} → statement M

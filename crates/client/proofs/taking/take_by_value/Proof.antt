@@ -7,8 +7,8 @@ use Rattle.client.proofs.taking.take_by_value.Tie as tie
 
 returns : tie.Need-returns
 returns c =
-    let a = c.before.before.before.before.before.before.before.args in
-    c.before.before.take_in.ensures
+    let a = c.args in
+    c.take_in.ensures
     ∙ core_take_lem a.party.t a.party.client a.writers.now a.keys.now a.call a.kept.now a.reply.now a.out.now
     (search rules)
 

@@ -15,9 +15,9 @@ wide c = search rules
 
 returns : tie.Need-returns-then-kept-ne-KEPT
 returns c =
-    let a = c.before.before.before.before.before.args in
+    let a = c.args in
     let e = take-length a.party.t a.party.client a.writers.now a.keys.now a.call a.kept.now a.reply.now a.out.now
-    c.before.if-kept-ne-KEPT.true in
+    c.if-kept-ne-KEPT.true in
     rw (e, c.refused.ensures)
 
 returns-2 : tie.Need-returns-then-outside
@@ -25,10 +25,10 @@ unfolding shelf
 returns-2 c =
     let at-start = c.before.before.before.before.before.before.before in
     let a = at-start.args in
-    let w : bad_faults (shelf a.party.t) ≡ true = sym c.before.before.outside.ensures ∙ c.before.if-outside.true in
+    let w : bad_faults (shelf a.party.t) ≡ true = sym c.outside.ensures ∙ c.if-outside.true in
     taken_in a.party.t a.party.client a.writers.now a.keys.now a.call a.kept.now a.reply.now a.out.now
     c.refused-then-outside.result
-    a.kept.now a.out.now (wide at-start) c.before.before.before.if-kept-ne-KEPT.false
+    a.kept.now a.out.now (wide at-start) c.if-kept-ne-KEPT.false
     (takes-refused a.party.t a.party.client a.writers.now a.keys.now a.call a.kept.now a.reply.now a.out.now
     c.refused-then-outside.result 3
     c.refused-then-outside.ensures (take-faults a.party.t a.party.client a.writers.now a.keys.now a.call a.kept.now a.reply.now
@@ -45,11 +45,11 @@ returns-3 c =
     let at-start = start-from-awaited-kind at-awaited-kind in
     let a = at-start.args in
     let w : bad_faults (shelf a.party.t) ≡ false =
-    sym at-awaited-kind.before.before.outside.ensures ∙ at-awaited-kind.before.if-outside.false in
-    let v = rw c.before.before.before.awaited_kind.ensures at (sym c.before.before.bad_client.ensures ∙ c.before.if-bad_client.true) in
+    sym at-awaited-kind.outside.ensures ∙ at-awaited-kind.if-outside.false in
+    let v = rw c.awaited_kind.ensures at (sym c.bad_client.ensures ∙ c.if-bad_client.true) in
     taken_in a.party.t a.party.client a.writers.now a.keys.now a.call a.kept.now a.reply.now a.out.now
     c.refused-then-bad_client.result
-    a.kept.now a.out.now (wide at-start) at-awaited-kind.before.before.before.if-kept-ne-KEPT.false
+    a.kept.now a.out.now (wide at-start) at-awaited-kind.if-kept-ne-KEPT.false
     (takes-refused a.party.t a.party.client a.writers.now a.keys.now a.call a.kept.now a.reply.now a.out.now
     c.refused-then-bad_client.result 5
     c.refused-then-bad_client.ensures (take-reader a.party.t a.party.client a.writers.now a.keys.now a.call a.kept.now a.reply.now
@@ -60,10 +60,10 @@ take-reply-requires : tie.Need-take_reply-requires
 unfolding shelf
 take-reply-requires c κs =
     let at-awaited-kind = c.before.before.before.before in (
-      sym at-awaited-kind.before.before.outside.ensures ∙ at-awaited-kind.before.if-outside.false,
+      sym at-awaited-kind.outside.ensures ∙ at-awaited-kind.if-outside.false,
       (
-        rw at-awaited-kind.awaited_kind.ensures at (sym c.before.before.before.bad_client.ensures ∙ c.before.before.if-bad_client.false),
-        at-awaited-kind.before.before.before.if-kept-ne-KEPT.false,
+        rw at-awaited-kind.awaited_kind.ensures at (sym c.bad_client.ensures ∙ c.if-bad_client.false),
+        at-awaited-kind.if-kept-ne-KEPT.false,
       ),
     )
 
@@ -74,7 +74,7 @@ returns-4 c =
     let at-start = start-from-awaited-kind at-awaited-kind in
     let a = at-start.args in
     taken_in a.party.t a.party.client a.writers.now a.keys.now a.call a.kept.now a.reply.now a.out.now
-    at-take-reply.take_reply.result _ _ (wide at-start) at-awaited-kind.before.before.before.if-kept-ne-KEPT.false
+    at-take-reply.take_reply.result _ _ (wide at-start) at-awaited-kind.if-kept-ne-KEPT.false
     at-take-reply.take_reply.ensures
 
 pub take_in_spec : {M : Type 1} → statement M

@@ -40,15 +40,15 @@ returns c =
     λ writers keys. takes-collect a.party.t a.party.client writers keys a.call a.kept.now a.reply.now a.out.now a.head
     p.0 p.1.1.1
     at-match.in-4.keys1 (λ k. (at-shared-slice-known.shared_slice_known-1.given k).fits) _
-    c.before.before.before.rest.ensures c.before.before.take_collect.result c.before.before.take_collect.ensures.0 _
-    c.before.before.take_collect.ensures.1
+    c.rest.ensures c.take_collect.result c.take_collect.ensures.0 _
+    c.take_collect.ensures.1
 
 returns-2 : tie.Need-returns-in-5
 returns-2 c = search rules
 
 take-repair-requires : tie.Need-take_repair-requires
 take-repair-requires c κs =
-    let z = (shared-slice-known-from-struct-known c.before.before.before).before.before in
+    let z = (shared-slice-known-from-struct-known c.before.before).before.before in
     let a = z.args in
     let p = z.requires in
     let f = ready-faults a.party.t a.party.client a.call a.reply.now a.head p.0 in
@@ -58,14 +58,14 @@ take-repair-requires c κs =
 returns-3 : tie.Need-returns-in_default
 returns-3 c =
     let at-match = c.before.before.before.before.before in
-    let z = (shared-slice-known-from-struct-known at-match.before).before.before in
+    let z = (shared-slice-known-from-struct-known at-match).before.before in
     let a = z.args in
     let p = z.requires in
     let q = ready-round a.party.t a.party.client a.call a.reply.now a.head p.0 in
     let e : a.call.tally.round ≡ 6 = omega (arith, p.1.0, at-match.match.rest.0.1, at-match.match.rest.1) in
     λ writers keys. takes-repair a.party.t a.party.client writers keys a.call a.kept.now a.reply.now a.out.now a.head
     p.0 p.1.1.1
-    e c.before.before.take_repair.result c.before.before.take_repair.ensures.0 _ c.before.before.take_repair.ensures.1
+    e c.take_repair.result c.take_repair.ensures.0 _ c.take_repair.ensures.1
 
 pub take_read_round_spec : {M : Type 1} → statement M
 take_read_round_spec = tie.close (tie.spec (λ c. search rules) (λ c κs. search rules) take-collect-requires (λ c κs. search rules)

@@ -18,7 +18,7 @@ returns c =
     c.refused.ensures
     (take_broken a.party.t a.party.client a.writers.now a.keys.now a.call a.kept.now a.reply.now a.out.now p.0
     p.1.0
-    (rw c.before.enum_told-1.given.1 at c.before.before.before.read_packet.ensures))
+    (rw c.enum_told-1.given.1 at c.read_packet.ensures))
 
 -- Places far back, each named once: the place, and from where it is seen.
 abbrev start-from-passed : tie.In-Value-2 → tie.Start
@@ -29,16 +29,16 @@ module _ (c : tie.In-Value-2) where
   passed = c.passed-1.given.0.0
 
   read : TookPacket (start-from-passed c).args.reply.now passed.head passed.label passed.number
-  read = rw c.passed-1.given.1 at c.before.before.read_packet.ensures
+  read = rw c.passed-1.given.1 at c.read_packet.ensures
 
 reply-refusal-requires : tie.Need-reply_refusal-n-requires
 reply-refusal-requires c κs =
-    let a = (start-from-passed c.before).args in
-    server_range a.reply.now (passed c.before).head (read c.before).packet
+    let a = (start-from-passed c.before.before).args in
+    server_range a.reply.now (passed c.before.before).head (read c.before.before).packet
 
 returns-2 : tie.Need-returns-then-n-ne0
 returns-2 c =
-    let at-passed = c.before.before.before.before in
+    let at-passed = c.before.before.before.before.before in
     let z = start-from-passed at-passed in
     let a = z.args in
     let p = z.requires in
@@ -46,18 +46,18 @@ returns-2 c =
     c.refused-then-n-ne0.result _
     c.refused-then-n-ne0.ensures
     (take_head a.party.t a.party.client a.writers.now a.keys.now a.call a.kept.now a.reply.now a.out.now p.0
-    p.1.0 (passed at-passed).head (read at-passed).packet c.before.before.reply_refusal-n.result
-    c.before.before.reply_refusal-n.ensures c.before.if-n-ne0.true)
+    p.1.0 (passed at-passed).head (read at-passed).packet c.reply_refusal-n.result
+    c.reply_refusal-n.ensures c.if-n-ne0.true)
 
 take-round-requires : tie.Need-take_round-requires
 take-round-requires c κs =
-    let at-passed = c.before.before.before.before.before in
+    let at-passed = c.before.before.before.before.before.before in
     let p = (start-from-passed at-passed).requires in (
       record {
         decoded = (read at-passed).packet;
         faults = p.0;
         reader = p.1.0;
-        awaited = sym c.before.before.before.reply_refusal-n.ensures ∙ c.before.before.if-n-ne0.false;
+        awaited = sym c.reply_refusal-n.ensures ∙ c.if-n-ne0.false;
       },
       (p.1.1, read at-passed),
     )

@@ -13,7 +13,7 @@ start-from-tally c = c.before.before.before.before
 take-clock-requires : tie.Need-take_clock-requires
 take-clock-requires c κs =
     let p = (start-from-tally c.before.before).requires in
-    (p.0, (c.before.if-round-eq-CLOCK.true, (p.1.0, p.1.1)))
+    (p.0, (c.if-round-eq-CLOCK.true, (p.1.0, p.1.1)))
 
 returns : tie.Need-returns-then-round-eq-CLOCK
 returns c =
@@ -30,7 +30,7 @@ returns-2 c =
     c.refused.result 15
     c.refused.ensures
     (round_short a.party.t a.party.client a.writers.now a.keys.now a.call a.kept.now a.reply.now a.out.now
-    a.passed.head p.0 c.before.before.if-round-eq-CLOCK.false (omega (arith, c.before.if-out-lt-CONTENT_ROOM.true)))
+    a.passed.head p.0 c.if-round-eq-CLOCK.false (omega (arith, c.if-out-lt-CONTENT_ROOM.true)))
 
 take-write-round-requires : tie.Need-take_write_round-requires
 take-write-round-requires c κs =
@@ -39,19 +39,19 @@ take-write-round-requires c κs =
     let a = z.args in
     let p = z.requires in
     let q = ready-round a.party.t a.party.client a.call a.reply.now a.passed.head p.0 in
-    (p.0, (omega (arith, at-if1.if-round-eq-CLOCK.false), (c.before.if-round-lt-COLLECT.true, p.1.1)))
+    (p.0, (omega (arith, at-if1.if-round-eq-CLOCK.false), (c.if-round-lt-COLLECT.true, p.1.1)))
 
 returns-3 : tie.Need-returns-then-round-lt-COLLECT
 returns-3 c =
     let at-if2 = c.before.before.before in
-    let a = (start-from-tally at-if2.before.before).args in
+    let a = (start-from-tally at-if2.before).args in
     c.take_write_round.ensures a.writers.now a.keys.now a.out.now (omega (arith, at-if2.if-out-lt-CONTENT_ROOM.false))
 
 returns-4 : tie.Need-returns
 returns-4 c =
     let at-take-read-round = c.before.before.before.before in
     let at-if3 = at-take-read-round.before.before.before in
-    let a = (start-from-tally at-if3.before.before.before).args in
+    let a = (start-from-tally at-if3.before.before.before.before).args in
     at-take-read-round.take_read_round.ensures a.writers.now a.keys.now
 
 pub take_round_spec : {M : Type 1} → statement M

@@ -30,8 +30,8 @@ told c e =
 cast-take-store : tie.Need-overflow_cast-passed
 cast-take-store c =
     let at-known = c.before.before in
-    let h = at-known.before.before.before.shared_slice_known-2-1.given head_size in
-    omega (arith, told (start-from-known at-known) c.before.if-round-eq-STORE.true)
+    let h = at-known.shared_slice_known-2-1.given head_size in
+    omega (arith, told (start-from-known at-known) c.if-round-eq-STORE.true)
 
 take-store-requires : tie.Need-take_store-requires
 take-store-requires c κs =
@@ -47,7 +47,7 @@ returns c =
     let z = start-from-known c.before.before.before in
     let a = z.args in
     let p = z.requires in
-    let e = c.before.before.if-round-eq-STORE.true in
+    let e = c.if-round-eq-STORE.true in
     λ writers keys output room. takes-store a.party.t a.party.client writers keys a.call a.kept.now a.reply.now output
     a.passed.head p.0 room e _ (told z e) c.take_store.result c.take_store.ensures
 
@@ -65,7 +65,7 @@ returns-2 c =
     let z = start-from-known c.before.before in
     let a = z.args in
     let p = z.requires in
-    let e : a.call.tally.round ≡ 3 = omega (arith, p.1.0, p.1.1.0, c.before.if-round-eq-STORE.false) in
+    let e : a.call.tally.round ≡ 3 = omega (arith, p.1.0, p.1.1.0, c.if-round-eq-STORE.false) in
     λ writers keys output room. takes-complete a.party.t a.party.client writers keys a.call a.kept.now a.reply.now output
     a.passed.head p.0 room e c.take_complete.result c.take_complete.ensures
 

@@ -11,19 +11,19 @@ use Rattle.client.proofs.writes.take_complete.Tie as tie
 
 module _ (c : tie.After-is_full) where
   abbrev start : tie.Start
-  start = c.before.before.before
+  start = c.before.before.before.before
 
   -- the test of the code tells whether the reply ends the round
   ended : (v : Bool) → c.is_full.result ≡ v → ends (shelf start.args.t) start.args.call start.args.server ≡ v
   ended v e =
-      ends_by start.args.t start.args.call start.args.server _ (ap (λ (z : Call). z.tally) c.before.note_reply-noted.ensures) _ v
+      ends_by start.args.t start.args.call start.args.server _ (ap (λ (z : Call). z.tally) c.note_reply-noted.ensures) _ v
       c.is_full.ensures e
 
 returns : tie.Need-returns-then-is_full
-returns c = let e = ended c.before.before.before _ c.before.before.if-is_full.true in rw (e, c.enter.ensures, c.before.chosen_label-label.ensures)
+returns c = let e = ended c.before.before.before _ c.if-is_full.true in rw (e, c.enter.ensures, c.chosen_label-label.ensures)
 
 returns-2 : tie.Need-returns
-returns-2 c = let e = ended c.before.before _ c.before.if-is_full.false in rw (e, c.more.ensures, c.before.before.before.note_reply-noted.ensures)
+returns-2 c = let e = ended c.before.before _ c.if-is_full.false in rw (e, c.more.ensures, c.note_reply-noted.ensures)
 
 pub take_complete_spec : {M : Type 1} → statement M
 take_complete_spec = tie.close (tie.spec (λ c κs. search rules) (λ c κs. search rules) (λ c κs. search rules) (λ c κs. search rules) returns

@@ -21,17 +21,17 @@ loop-holds c = refl
 returns : tie.Need-returns-then-text-i-eq-NEWLINE invariant-loop decreases-loop
 returns c =
     let at-loop = c.before.before.before in
-    sym (at-loop.loop-i.invariant ∙ end_here at-loop.before.args.text.now at-loop.loop-i.i (omega arith) c.if-text-i-eq-NEWLINE.true)
+    sym (at-loop.loop-i.invariant ∙ end_here at-loop.args.text.now at-loop.loop-i.i (omega arith) c.if-text-i-eq-NEWLINE.true)
 
 loop-again : tie.Need-loop-i-preserved invariant-loop decreases-loop
 loop-again c =
     let at-loop = c.before.before.before in
-    at-loop.loop-i.invariant ∙ end_more at-loop.before.args.text.now at-loop.loop-i.i (omega arith) c.if-text-i-eq-NEWLINE.false
+    at-loop.loop-i.invariant ∙ end_more at-loop.args.text.now at-loop.loop-i.i (omega arith) c.if-text-i-eq-NEWLINE.false
 
 returns-2 : tie.Need-returns invariant-loop decreases-loop
 returns-2 c =
     let at-loop = c.before in
-    sym (at-loop.loop-i.invariant ∙ end_last at-loop.before.args.text.now at-loop.loop-i.i (omega arith))
+    sym (at-loop.loop-i.invariant ∙ end_last at-loop.args.text.now at-loop.loop-i.i (omega arith))
 
 pub line_end_spec : {M : Type 1} → statement M
 line_end_spec = tie.close (tie.spec invariant-loop decreases-loop loop-holds (λ c. search rules) returns (λ c. search rules) (λ c. search rules) loop-again

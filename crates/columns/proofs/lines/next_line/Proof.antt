@@ -7,13 +7,13 @@ use Rattle.columns.proofs.lines.next_line.Tie as tie
 returns : tie.Need-returns-then-end-text
 returns c =
     let at-start = c.before.before.before in
-    let e = c.before.line_end-end.ensures in
+    let e = c.line_end-end.ensures in
     rw e (next_here at-start.args.text.now at-start.args.at (rw e at c.if-end-text.true))
 
 returns-2 : tie.Need-returns
 returns-2 c =
     let at-start = c.before.before.before in
-    let e = c.before.line_end-end.ensures in
+    let e = c.line_end-end.ensures in
     next_none at-start.args.text.now at-start.args.at (rw e at c.if-end-text.false)
 
 pub next_line_spec : {M : Type 1} → statement M

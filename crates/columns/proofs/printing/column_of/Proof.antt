@@ -19,27 +19,27 @@ loop-holds c = printing_none c.args.v
 returns : tie.Need-returns-then-rest-eq0 invariant-loop decreases-loop
 returns c =
     let at-start = c.before.before.before.before in
-    let i = c.before.before.before.loop-i.i in
+    let i = c.loop-i.i in
     let e : i ≡ suc (i - 1) = omega arith in
-    let p = subst (λ (k : ℕ). Printing at-start.args.v k c.before.before.before.loop-i.rest
-    c.before.before.before.loop-i.a) e c.before.before.before.loop-i.invariant in
-    rw c.before.digit_of.ensures (printing_last at-start.args.v (i - 1) c.before.before.before.loop-i.rest
-    c.before.before.before.loop-i.a p c.if-rest-eq0.true)
+    let p = subst (λ (k : ℕ). Printing at-start.args.v k c.loop-i.rest
+    c.loop-i.a) e c.loop-i.invariant in
+    rw c.digit_of.ensures (printing_last at-start.args.v (i - 1) c.loop-i.rest
+    c.loop-i.a p c.if-rest-eq0.true)
 
 loop-again : tie.Need-loop-i-preserved invariant-loop decreases-loop
 loop-again c =
     let at-start = c.before.before.before.before in
-    let i = c.before.before.before.loop-i.i in
+    let i = c.loop-i.i in
     let e : i ≡ suc (i - 1) = omega arith in
-    let p = subst (λ (k : ℕ). Printing at-start.args.v k c.before.before.before.loop-i.rest
-    c.before.before.before.loop-i.a) e c.before.before.before.loop-i.invariant in
-    rw c.before.digit_of.ensures (printing_more at-start.args.v (i - 1) c.before.before.before.loop-i.rest
-    c.before.before.before.loop-i.a p c.if-rest-eq0.false)
+    let p = subst (λ (k : ℕ). Printing at-start.args.v k c.loop-i.rest
+    c.loop-i.a) e c.loop-i.invariant in
+    rw c.digit_of.ensures (printing_more at-start.args.v (i - 1) c.loop-i.rest
+    c.loop-i.a p c.if-rest-eq0.false)
 
 returns-2 : tie.Need-returns invariant-loop decreases-loop
 returns-2 c =
-    let e : c.before.loop-i.i ≡ 0 = omega arith in
-    printing_full c.before.before.args.v c.before.loop-i.rest c.before.loop-i.a (rw e at c.before.loop-i.invariant)
+    let e : c.loop-i.i ≡ 0 = omega arith in
+    printing_full c.args.v c.loop-i.rest c.loop-i.a (rw e at c.loop-i.invariant)
 
 pub column_of_spec : {M : Type 1} → statement M
 column_of_spec = tie.close (tie.spec invariant-loop decreases-loop loop-holds (λ c. search rules) (λ c κs. search rules) (λ c. search rules) returns

@@ -24,9 +24,9 @@ loop-holds c = (omega arith, paste-zero c.args.out.now c.args.at c.args.column)
 
 -- the output keeps its length
 module _ (c : tie.At-loop-i invariant-loop decreases-loop) where
-  same_size : length c.loop-i.out ≡ length c.before.args.out.now
+  same_size : length c.loop-i.out ≡ length c.args.out.now
   same_size =
-      let a = c.before.args in
+      let a = c.args in
       let e = eight c.before in
       ap length c.loop-i.invariant.1 ∙ length-paste a.out.now a.at a.column c.loop-i.i (omega arith) (omega arith)
 
@@ -35,11 +35,11 @@ slice-write-out c = omega (arith, same_size c.before)
 
 loop-again : tie.Need-loop-i-preserved invariant-loop decreases-loop
 loop-again c =
-    let a = c.before.before.args in
-    let i = c.before.loop-i.i in
+    let a = c.args in
+    let i = c.loop-i.i in
     let e = eight c.before.before in (
       omega arith,
-      ap (λ (z : List ℕ). set z (a.at + i) (get_or a.column i 0)) c.before.loop-i.invariant.1
+      ap (λ (z : List ℕ). set z (a.at + i) (get_or a.column i 0)) c.loop-i.invariant.1
           ∙ paste-suc a.out.now a.at a.column i 0 (omega arith) (omega arith)
           ∙ ap (paste a.out.now a.at a.column) (sym (add-one i)),
     )
@@ -48,7 +48,7 @@ same_length : tie.Need-shape_of-out invariant-loop decreases-loop
 same_length c = same_size c.before
 
 returns : tie.Need-returns invariant-loop decreases-loop
-returns c = let e : c.before.loop-i.i ≡ 8 = omega arith in c.before.loop-i.invariant.1 ∙ rw e
+returns c = let e : c.loop-i.i ≡ 8 = omega arith in c.loop-i.invariant.1 ∙ rw e
 
 pub put_column_spec : {M : Type 1} → statement M
 put_column_spec = tie.close (tie.spec invariant-loop decreases-loop loop-holds (λ c. search rules) (λ c. search rules) slice-write-out (λ c. search rules)

@@ -25,7 +25,7 @@ module _ (c : tie.At-loop-j invariant-loop decreases-loop) where
       same_size a.out.now a.at a.values.now (start-from-loop c).requires c.loop-j.out c.loop-j.j c.loop-j.invariant
 
 loop-holds : tie.Need-loop-j-init invariant-loop decreases-loop
-loop-holds c = let a = c.before.before.args in put_none a.out.now a.at a.values.now
+loop-holds c = let a = c.args in put_none a.out.now a.at a.values.now
 
 put-column-requires : tie.Need-put_column-requires invariant-loop decreases-loop
 put-column-requires c κs = let h = size_is c.before.before.before.before in omega arith
@@ -36,7 +36,7 @@ loop-again c =
     let at-loop = at-put-column.before.before.before.before.before in
     let a = (start-from-loop at-loop).args in
     put_one_more a.out.now a.at a.values.now (start-from-loop at-loop).requires at-loop.loop-j.out at-loop.loop-j.j at-loop.loop-j.invariant
-    (omega arith) at-put-column.before.column_of.ensures at-put-column.put_column.ensures
+    (omega arith) at-put-column.column_of.ensures at-put-column.put_column.ensures
 
 same_length : tie.Need-shape_of-out invariant-loop decreases-loop
 same_length c = size_is c.before

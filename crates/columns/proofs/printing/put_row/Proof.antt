@@ -11,21 +11,21 @@ use Rattle.columns.proofs.printing.put_row.Tie as tie
 
 returns : tie.Need-returns-then-out-at
 returns c =
-    let a = c.before.before.before.args in
+    let a = c.args in
     no_room a.out.now a.at a.values.now (omega arith)
 
 returns-2 : tie.Need-returns-then-out-at-2
 returns-2 c =
-    let a = c.before.before.before.before.args in
+    let a = c.args in
     no_room a.out.now a.at a.values.now
-    (room_short (length a.out.now) a.at (length a.values.now) c.before.if-out-at.false c.if-out-at-2.true)
+    (room_short (length a.out.now) a.at (length a.values.now) c.if-out-at.false c.if-out-at-2.true)
 
 module _ (c : tie.Else-out-at-2) where
   abbrev begin : tie.Start
   begin = c.before.before.before.before
 
   fits : begin.args.at + column_size * length begin.args.values.now < length begin.args.out.now
-  fits = room_fits (length begin.args.out.now) begin.args.at (length begin.args.values.now) c.before.if-out-at.false c.if-out-at-2.false
+  fits = room_fits (length begin.args.out.now) begin.args.at (length begin.args.values.now) c.if-out-at.false c.if-out-at-2.false
 
 put-columns-requires : tie.Need-put_columns-requires
 put-columns-requires c κs = let h = fits c.before in omega arith
@@ -40,19 +40,19 @@ add-end : tie.Need-overflow_add-end
 add-end c = let h = fits (else2-from-slice-known2 c) in omega arith
 
 slice-write-out : tie.Need-bounds-out-end
-slice-write-out c = let h = fits (else2-from-slice-known2 c) in omega (arith, c.before.out-1.given)
+slice-write-out c = let h = fits (else2-from-slice-known2 c) in omega (arith, c.out-1.given)
 
 add-result : tie.Need-overflow_add-result
 add-result c = let h = fits (else2-from-slice-known2 c) in omega arith
 
 same_length : tie.Need-shape_of-out
-same_length c = length-set c.before.before.put_columns.new.0 _ _ ∙ c.before.out-1.given
+same_length c = length-set c.put_columns.new.0 _ _ ∙ c.out-1.given
 
 returns-3 : tie.Need-returns
 returns-3 c =
     let at-else2 = else2-from-slice-known2 c in
     let a = (begin at-else2).args in
-    put-newline a.out.now a.at a.values.now (fits at-else2) c.before.before.put_columns.ensures
+    put-newline a.out.now a.at a.values.now (fits at-else2) c.put_columns.ensures
 
 pub put_row_spec : {M : Type 1} → statement M
 put_row_spec = tie.close (tie.spec returns (λ c. search rules) (λ c. search rules) returns-2 put-columns-requires mul-end add-end slice-write-out

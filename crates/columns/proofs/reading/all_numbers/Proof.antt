@@ -18,17 +18,17 @@ abbrev decreases-loop : tie.decreases-loop-j
 decreases-loop text n j₀ j = n - j
 
 loop-holds : tie.Need-loop-j-init invariant-loop decreases-loop
-loop-holds c = let n = c.before.args.n in let e : n - 0 ≡ n = omega arith in rw e
+loop-holds c = let n = c.args.n in let e : n - 0 ≡ n = omega arith in rw e
 
 module _ (c : tie.After-is_value invariant-loop decreases-loop) where
   abbrev text : List ℕ
-  text = c.before.before.before.before.before.args.text.now
+  text = c.args.text.now
 
   abbrev j : ℕ
-  j = c.before.before.before.loop-j.j
+  j = c.loop-j.j
 
   holds : c.is_value.result ≡ is_read (column_in text j)
-  holds = c.is_value.ensures ∙ ap is_read c.before.column_at.ensures
+  holds = c.is_value.ensures ∙ ap is_read c.column_at.ensures
 
 returns : tie.Need-returns-then-not-is_value invariant-loop decreases-loop
 returns c =
@@ -45,7 +45,7 @@ loop-again c =
 returns-2 : tie.Need-returns invariant-loop decreases-loop
 returns-2 c =
     let at-loop = c.before in
-    let a = at-loop.before.before.args in
+    let a = at-loop.args in
     sym (at-loop.loop-j.invariant ∙ left_none a.n a.text.now at-loop.loop-j.j (omega arith))
 
 pub all_numbers_spec : {M : Type 1} → statement M

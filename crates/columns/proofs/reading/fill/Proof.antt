@@ -16,37 +16,37 @@ abbrev decreases-loop : tie.decreases-loop-j
 decreases-loop text values₀ j₀ values j = length values₀ - j
 
 loop-holds : tie.Need-loop-j-init invariant-loop decreases-loop
-loop-holds c = filling_none c.before.before.args.text.now c.before.before.args.values.now
+loop-holds c = filling_none c.args.text.now c.args.values.now
 
 mul-column-at : tie.Need-overflow_mul-j invariant-loop decreases-loop
-mul-column-at c = omega (arith, c.before.loop-j.invariant.size)
+mul-column-at c = omega (arith, c.loop-j.invariant.size)
 
 column-at-requires : tie.Need-column_at-requires invariant-loop decreases-loop
-column-at-requires c κs = omega (arith, c.before.loop-j.invariant.size)
+column-at-requires c κs = omega (arith, c.loop-j.invariant.size)
 
 mul-values : tie.Need-offset_bounds-values-j invariant-loop decreases-loop
-mul-values c = omega (arith, c.before.before.before.loop-j.invariant.size)
+mul-values c = omega (arith, c.loop-j.invariant.size)
 
 add-j : tie.Need-overflow_add-j invariant-loop decreases-loop
-add-j c = omega (arith, c.before.before.before.loop-j.invariant.size)
+add-j c = omega (arith, c.loop-j.invariant.size)
 
 loop-less : tie.Need-loop-j-smaller invariant-loop decreases-loop
-loop-less c = omega (arith, c.before.before.before.loop-j.invariant.size)
+loop-less c = omega (arith, c.loop-j.invariant.size)
 
 loop-again : tie.Need-loop-j-preserved invariant-loop decreases-loop
 loop-again c =
     let at-loop = c.before.before.before in
-    let a = at-loop.before.before.before.args in
+    let a = at-loop.args in
     filling_more a.text.now a.values.now at-loop.loop-j.values at-loop.loop-j.j at-loop.loop-j.invariant c.value_of.result
-    (omega (arith, at-loop.loop-j.invariant.size)) (c.value_of.ensures ∙ ap or_zero c.before.column_at.ensures)
+    (omega (arith, at-loop.loop-j.invariant.size)) (c.value_of.ensures ∙ ap or_zero c.column_at.ensures)
 
 same_length : tie.Need-shape_of-values invariant-loop decreases-loop
-same_length c = c.before.loop-j.invariant.size
+same_length c = c.loop-j.invariant.size
 
 returns : tie.Need-returns invariant-loop decreases-loop
 returns c =
     let at-loop = c.before in
-    let a = at-loop.before.before.before.args in
+    let a = at-loop.args in
     filling_all a.text.now a.values.now at-loop.loop-j.values at-loop.loop-j.j at-loop.loop-j.invariant
     (omega (arith, at-loop.loop-j.invariant.size))
 

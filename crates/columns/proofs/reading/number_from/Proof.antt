@@ -6,7 +6,7 @@ use Rattle.columns.proofs.reading.number_from.Statement.{statement}
 use Rattle.columns.proofs.reading.number_from.Tie as tie
 
 returns : tie.Need-returns-then-s-at
-returns c = rw (number-end c.before.before.args.s.now c.before.before.args.at c.if-s-at.true)
+returns c = rw (number-end c.args.s.now c.args.at c.if-s-at.true)
 
 returns-2 : tie.Need-returns-then-s-at-eq-NOUGHT
 returns-2 c =
@@ -16,7 +16,7 @@ returns-2 c =
 returns-3 : tie.Need-returns-then-s-at-gt1
 returns-3 c =
     let at-start = c.before.before.before.before.before.before in
-    rw (number_more at-start.args.s.now at-start.args.at (omega arith) c.before.if-s-at-eq-NOUGHT.false) c.digits_from.ensures
+    rw (number_more at-start.args.s.now at-start.args.at (omega arith) c.if-s-at-eq-NOUGHT.false) c.digits_from.ensures
 
 returns-4 : tie.Need-returns
 returns-4 c =

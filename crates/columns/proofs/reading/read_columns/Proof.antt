@@ -15,16 +15,16 @@ module _ (c : tie.Else-text-values) where
   begin = c.before.before.before.before
 
   sized : length begin.args.text.now ≡ column_size * length begin.args.values.now
-  sized = so-many (length begin.args.text.now) (length begin.args.values.now) c.before.if-text-ne0.false c.if-text-values.false
+  sized = so-many (length begin.args.text.now) (length begin.args.values.now) c.if-text-ne0.false c.if-text-values.false
 
 returns : tie.Need-returns-then-text-ne0
 returns c =
-    let a = c.before.before.before.args in
+    let a = c.args in
     other_length (length a.values.now) a.text.now a.values.now (ragged (length a.text.now) (length a.values.now) c.if-text-ne0.true)
 
 returns-2 : tie.Need-returns-then-text-values
 returns-2 c =
-    let a = c.before.before.before.before.args in
+    let a = c.args in
     other_length (length a.values.now) a.text.now a.values.now
     (too_many (length a.text.now) (length a.values.now) c.if-text-values.true)
 
@@ -36,7 +36,7 @@ returns-3 c =
     let at-else2 = c.before.before in
     let a = (begin at-else2).args in
     not_read (length a.values.now) a.text.now a.values.now (sized at-else2)
-    (sym c.before.all_numbers.ensures ∙ not-true _ c.if-not-all_numbers.true)
+    (sym c.all_numbers.ensures ∙ not-true _ c.if-not-all_numbers.true)
 
 fill-requires : tie.Need-fill-requires
 fill-requires c κs = let h = sized c.before.before.before in omega arith
@@ -48,7 +48,7 @@ returns-4 c =
     let at-else2 = at-else3.before.before in
     let a = (begin at-else2).args in
     all_read (length a.values.now) a.text.now a.values.now (sized at-else2)
-    (sym at-else3.before.all_numbers.ensures ∙ not-false _ at-else3.if-not-all_numbers.false) at_fill_lem.fill.ensures.filled
+    (sym at-else3.all_numbers.ensures ∙ not-false _ at-else3.if-not-all_numbers.false) at_fill_lem.fill.ensures.filled
 
 pub read_columns_spec : {M : Type 1} → statement M
 read_columns_spec = tie.close (tie.spec returns returns-2 all-numbers-requires returns-3 fill-requires (λ c. search rules) returns-4)

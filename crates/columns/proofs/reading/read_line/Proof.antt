@@ -18,7 +18,7 @@ module _ (c : tie.After-line_end-end) where
 returns : tie.Need-returns-then-text-end
 returns c =
     let a = (begin c.before).args in
-    rw (line_unended (length a.values.now) a.text.now a.at c.before.line_end-end.result c.before.line_end-end.ensures c.if-text-end.true)
+    rw (line_unended (length a.values.now) a.text.now a.at c.line_end-end.result c.line_end-end.ensures c.if-text-end.true)
 
 sub-read-columns : tie.Need-slice_bounds-read_columns-count
 sub-read-columns c = after c.before
@@ -32,7 +32,7 @@ returns-2 c =
     let at-line-end = at-else1.before in
     let a = (begin at-line-end).args in
     rw (line-ended (length a.values.now) a.text.now a.at at-line-end.line_end-end.result at-line-end.line_end-end.ensures
-    at-else1.if-text-end.false) c.before.before.read_columns.ensures
+    at-else1.if-text-end.false) c.read_columns.ensures
 
 pub read_line_spec : {M : Type 1} → statement M
 read_line_spec = tie.close (tie.spec (λ c κs. search rules) returns sub-read-columns part-read-columns-start (λ c. search rules)

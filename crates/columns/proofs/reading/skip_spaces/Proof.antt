@@ -20,20 +20,20 @@ loop-holds c = (omega arith, refl)
 
 returns : tie.Need-returns-then-s-i-ne-SPACE invariant-loop decreases-loop
 returns c =
-    let s = c.before.before.before.before.args.s.now in
-    let i = c.before.before.before.loop-i.i in
-    (omega arith, c.before.before.before.loop-i.invariant.1 ∙ column-number s i (omega arith) c.if-s-i-ne-SPACE.true)
+    let s = c.args.s.now in
+    let i = c.loop-i.i in
+    (omega arith, c.loop-i.invariant.1 ∙ column-number s i (omega arith) c.if-s-i-ne-SPACE.true)
 
 loop-again : tie.Need-loop-i-preserved invariant-loop decreases-loop
 loop-again c =
-    let s = c.before.before.before.before.args.s.now in
-    let i = c.before.before.before.loop-i.i in
-    (omega arith, c.before.before.before.loop-i.invariant.1 ∙ column_space s i (omega arith) c.if-s-i-ne-SPACE.false)
+    let s = c.args.s.now in
+    let i = c.loop-i.i in
+    (omega arith, c.loop-i.invariant.1 ∙ column_space s i (omega arith) c.if-s-i-ne-SPACE.false)
 
 returns-2 : tie.Need-returns invariant-loop decreases-loop
 returns-2 c =
-    let s = c.before.before.args.s.now in
-    (omega arith, c.before.loop-i.invariant.1 ∙ column-end s c.before.loop-i.i (omega arith))
+    let s = c.args.s.now in
+    (omega arith, c.loop-i.invariant.1 ∙ column-end s c.loop-i.i (omega arith))
 
 pub skip_spaces_spec : {M : Type 1} → statement M
 skip_spaces_spec = tie.close (tie.spec invariant-loop decreases-loop loop-holds (λ c. search rules) returns (λ c. search rules) (λ c. search rules) loop-again

@@ -22,10 +22,10 @@ abbrev decreases-loop : tie.decreases-loop-p
 decreases-loop kept t n servers f k out₀ p₀ out p = k - p
 
 fragment-size-requires : tie.Need-fragment_size-f-requires invariant-loop decreases-loop
-fragment-size-requires c κs = let p = c.before.requires in (p.0.low, p.0.high, p.1)
+fragment-size-requires c κs = let p = c.requires in (p.0.low, p.0.high, p.1)
 
 threshold-requires : tie.Need-threshold-k-requires invariant-loop decreases-loop
-threshold-requires c κs = c.before.before.requires.0.high
+threshold-requires c κs = c.requires.0.high
 
 loop-holds : tie.Need-loop-p-init invariant-loop decreases-loop
 loop-holds c = (omega arith, refl, λ q l. absurd (omega arith))
@@ -35,19 +35,19 @@ abbrev start-from-at-loop : tie.At-loop-p invariant-loop decreases-loop → tie.
 start-from-at-loop c = c.before.before.before.before
 
 array-read-at : tie.Need-bounds-servers-p invariant-loop decreases-loop
-array-read-at c = omega (arith, c.before.before.threshold-k.ensures.1, (start-from-at-loop c.before).requires.0.high)
+array-read-at c = omega (arith, c.threshold-k.ensures.1, (start-from-at-loop c.before).requires.0.high)
 
 -- what every number of a turn rests on, at the top of the loop's body
 fine : (c : tie.In-loop-p invariant-loop decreases-loop)
-    → Turn (start-from-at-loop c.before).args.kept.now (get_or (start-from-at-loop c.before).args.servers c.before.loop-p.p 0)
-    c.before.before.before.fragment_size-f.result c.before.loop-p.p
+    → Turn (start-from-at-loop c.before).args.kept.now (get_or (start-from-at-loop c.before).args.servers c.loop-p.p 0)
+    c.fragment_size-f.result c.loop-p.p
 fine c =
     let at-loop = c.before in
     let at-start = start-from-at-loop at-loop in
     let a = at-start.args in
     let p = at-start.requires in
-    turn a.t a.kept.now a.servers a.n p.0 p.1 p.2 c.before.before.before.fragment_size-f.result c.before.loop-p.p
-    c.before.before.before.fragment_size-f.ensures (omega (arith, c.before.before.threshold-k.ensures.0))
+    turn a.t a.kept.now a.servers a.n p.0 p.1 p.2 c.fragment_size-f.result c.loop-p.p
+    c.fragment_size-f.ensures (omega (arith, c.threshold-k.ensures.0))
 
 copy-requires : tie.Need-copy-requires invariant-loop decreases-loop
 copy-requires c κs =
@@ -55,13 +55,13 @@ copy-requires c κs =
     let at-start = start-from-at-loop at-loop in
     let a = at-start.args in
     let p = at-start.requires in
-    let f = at-loop.before.before.fragment_size-f in
-    let l : c.before.before.before.loop-p.p < (shelf a.t).threshold = omega (arith, at-loop.before.threshold-k.ensures.0) in
-    let at : ℕ = replies_place + reply_slot * (get_or a.servers c.before.before.before.loop-p.p 0 - 1) + (stamp_size + 3) in
+    let f = at-loop.fragment_size-f in
+    let l : c.loop-p.p < (shelf a.t).threshold = omega (arith, at-loop.threshold-k.ensures.0) in
+    let at : ℕ = replies_place + reply_slot * (get_or a.servers c.loop-p.p 0 - 1) + (stamp_size + 3) in
     omega (
       arith,
-      source-length a.t a.kept.now a.servers a.n p.0 p.1 p.2 f.result c.before.before.before.loop-p.p at f.ensures l refl,
-      c.before.before.before.loop-p.invariant.1,
+      source-length a.t a.kept.now a.servers a.n p.0 p.1 p.2 f.result c.loop-p.p at f.ensures l refl,
+      c.loop-p.invariant.1,
       fine c.before.before,
     )
 
@@ -72,12 +72,12 @@ loop-again c =
     let a = at-start.args in
     let p = at-start.requires in
     let v = at-loop.loop-p.invariant in
-    let l : at-loop.loop-p.p < (shelf a.t).threshold = omega (arith, at-loop.before.threshold-k.ensures.0) in
+    let l : at-loop.loop-p.p < (shelf a.t).threshold = omega (arith, at-loop.threshold-k.ensures.0) in
     let at : ℕ = replies_place + reply_slot * (get_or a.servers at-loop.loop-p.p 0 - 1) + (stamp_size + 3) in
     let w =
     fragments_more a.t a.kept.now a.servers a.n p.0 p.1 p.2 at-loop.loop-p.out
-    c.before.copy.new.0 at-loop.before.before.fragment_size-f.result at-loop.loop-p.p at
-    at-loop.before.before.fragment_size-f.ensures l refl v.1 v.2 c.before.copy.ensures in
+    c.copy.new.0 at-loop.fragment_size-f.result at-loop.loop-p.p at
+    at-loop.fragment_size-f.ensures l refl v.1 v.2 c.copy.ensures in
     (omega arith, w.0, w.1)
 
 returns : tie.Need-returns invariant-loop decreases-loop
@@ -85,13 +85,13 @@ returns c =
     let at-loop = c.before in
     let at-start = start-from-at-loop at-loop in
     let a = at-start.args in
-    let e = c.before.before.before.fragment_size-f.ensures in
+    let e = c.fragment_size-f.ensures in
     let p = at-start.requires in
     record {
-      long = omega (arith, fragments-room a.t a.n p.0.high p.1, c.before.loop-p.invariant.1);
+      long = omega (arith, fragments-room a.t a.n p.0.high p.1, c.loop-p.invariant.1);
       each = λ q l. subst
-          (λ (f : ℕ). bytes_at c.before.loop-p.out (q * f) f ≡ (fragment_of a.kept.now f (get_or a.servers q 0)).bytes) e
-          (c.before.loop-p.invariant.2 q (omega (arith, c.before.before.threshold-k.ensures.0)));
+          (λ (f : ℕ). bytes_at c.loop-p.out (q * f) f ≡ (fragment_of a.kept.now f (get_or a.servers q 0)).bytes) e
+          (c.loop-p.invariant.2 q (omega (arith, c.threshold-k.ensures.0)));
     }
 
 pub fragments_of_spec : {M : Type 1} → statement M

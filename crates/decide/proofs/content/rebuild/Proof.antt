@@ -16,7 +16,7 @@ use Rattle.decide.proofs.content.rebuild.Statement.{statement}
 use Rattle.decide.proofs.content.rebuild.Tie as tie
 
 size-of-requires : tie.Need-size_of-n-requires
-size-of-requires c κs = let a = c.before.before.before.args in let p = c.before.before.before.requires in lent_length a.kept.now a.b
+size-of-requires c κs = let a = c.args in let p = c.requires in lent_length a.kept.now a.b
     p.0.size p.1
 
 -- the length read
@@ -24,7 +24,7 @@ size : (kept : List ℕ) (b n : ℕ) → n ≡ size_in_def (lent_slot kept b) �
 size kept b n e = e ∙ ap size_in_def (slot_lent kept b)
 
 threshold-requires : tie.Need-threshold-k-requires
-threshold-requires c κs = c.before.before.before.before.requires.0.high
+threshold-requires c κs = c.requires.0.high
 
 fragment-size-requires : tie.Need-fragment_size-requires
 fragment-size-requires c κs =
@@ -49,9 +49,9 @@ mul-end c =
     let p = at-start.requires in
     omega (
       arith,
-      room a.t c.before.before.type_size.result c.before.threshold-k.result c.fragment_size.result p.0.high
+      room a.t c.before.before.type_size.result c.threshold-k.result c.fragment_size.result p.0.high
           (omega (arith, p.2.top, size a.kept.now a.b c.before.before.type_size.result c.before.before.type_size.ensures))
-          c.before.threshold-k.ensures.0 c.fragment_size.ensures,
+          c.threshold-k.ensures.0 c.fragment_size.ensures,
     )
 
 fragments-of-requires : tie.Need-fragments_of-fragments-requires
@@ -66,11 +66,11 @@ start-from-fragments-of c = c.before.before.before.before.before.before.before
 
 part-restore-end : tie.Need-slice_bounds-restore-end
 part-restore-end c =
-    let at-fragments-of = c.before in
+    let at-fragments-of = c in
     let at-start = start-from-fragments-of at-fragments-of in
     omega (
       arith,
-      c.before.before.before.threshold-k.ensures.1,
+      c.threshold-k.ensures.1,
       at-start.requires.0.high,
       at-start.good.1.1.1.0.1.0.1,
     )
@@ -80,16 +80,16 @@ products k l f g e q = rw (e, q)
 
 part-restore-end-2 : tie.Need-slice_bounds-restore-end-2
 part-restore-end-2 c =
-    let at-fragments-of = c.before.before.before in
+    let at-fragments-of = c.before in
     let at-start = start-from-fragments-of at-fragments-of in
     omega (
       arith,
-      c.before.before.before.fragments_of-fragments.ensures.long,
-      products at-fragments-of.before.before.threshold-k.result
-          (shelf at-start.args.t).threshold at-fragments-of.before.fragment_size.result (fragment_size_def (shelf
+      c.fragments_of-fragments.ensures.long,
+      products at-fragments-of.threshold-k.result
+          (shelf at-start.args.t).threshold at-fragments-of.fragment_size.result (fragment_size_def (shelf
           at-start.args.t).threshold
-          at-fragments-of.before.before.before.type_size.result) at-fragments-of.before.before.threshold-k.ensures.0
-          at-fragments-of.before.fragment_size.ensures,
+          at-fragments-of.before.before.before.type_size.result) at-fragments-of.threshold-k.ensures.0
+          at-fragments-of.fragment_size.ensures,
     )
 
 -- what is lent to restoring
@@ -101,7 +101,7 @@ lent t n k l f g servers frs out e q =
     rw (x, y)
 
 abbrev fragments-of-from-restore : tie.After-restore-r → tie.After-fragments_of-fragments
-fragments-of-from-restore c = c.before.before.before.before.before.before
+fragments-of-from-restore c = c.before.before.before.before
 
 returns : tie.Need-returns
 returns c =
@@ -112,20 +112,20 @@ returns c =
     let p = at-start.requires in
     let n = size a.kept.now a.b at-fragments-of.before.before.before.type_size.result
     at-fragments-of.before.before.before.type_size.ensures in
-    let k = at-fragments-of.before.before.threshold-k.ensures.0 in
-    let f = at-fragments-of.before.fragment_size.ensures in
+    let k = at-fragments-of.threshold-k.ensures.0 in
+    let f = at-fragments-of.fragment_size.ensures in
     rebuilt a.t a.kept.now a.servers at-fragments-of.before.before.before.type_size.result
     p.0 (omega (arith, p.2.top, n)) p.3 a.b at-fragments-of.fragments_of-fragments.result
     a.out.now at_restore.restore-r.new.1.1.1.1.0
     at_restore.restore-r.result n at-start.good.1.1.1.0.1.0.1 at-fragments-of.fragments_of-fragments.ensures p.4 (at_restore.restore-r.ensures
     ∙ lent a.t at-fragments-of.before.before.before.type_size.result
-    at-fragments-of.before.before.threshold-k.result (shelf a.t).threshold at-fragments-of.before.fragment_size.result
+    at-fragments-of.threshold-k.result (shelf a.t).threshold at-fragments-of.fragment_size.result
     (fragment_size_def (shelf a.t).threshold at-fragments-of.before.before.before.type_size.result)
     a.servers at-fragments-of.fragments_of-fragments.result a.out.now k f)
 
 pub rebuild_spec : {M : Type 1} → statement M
-rebuild_spec = tie.close (tie.spec (λ c. omega (arith, c.before.before.requires.0.size)) (λ c. omega (arith, c.before.before.requires.0.size))
-    (λ c. omega (arith, c.before.before.requires.0.size)) (λ c. omega (arith, c.before.before.requires.0.size))
-    (λ c. omega (arith, c.before.before.requires.0.size)) (λ c. omega (arith, c.before.before.requires.0.size)) size-of-requires threshold-requires
+rebuild_spec = tie.close (tie.spec (λ c. omega (arith, c.requires.0.size)) (λ c. omega (arith, c.requires.0.size))
+    (λ c. omega (arith, c.requires.0.size)) (λ c. omega (arith, c.requires.0.size))
+    (λ c. omega (arith, c.requires.0.size)) (λ c. omega (arith, c.requires.0.size)) size-of-requires threshold-requires
     fragment-size-requires mul-end fragments-of-requires (λ c. omega arith) (λ c. omega arith) part-restore-end (λ c. omega arith) (λ c. omega arith)
     part-restore-end-2 (λ c κs. search rules) (λ c. search rules) returns)

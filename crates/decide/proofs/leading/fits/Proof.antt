@@ -14,17 +14,17 @@ use Rattle.decide.proofs.leading.fits.Statement.{statement}
 use Rattle.decide.proofs.leading.fits.Tie as tie
 
 element-copy-out-if1 : tie.Need-bounds-replied-j
-element-copy-out-if1 c = let p = c.before.before.before.requires in omega (arith, p.2, few p.0)
+element-copy-out-if1 c = let p = c.requires in omega (arith, p.2, few p.0)
 
 returns : tie.Need-returns-then-replied-j-eq0
 returns c =
-    let a = c.before.before.before.before.before.args in
+    let a = c.args in
     let q = a.sought in
     let who = q.replied in
     sym (fits_unmarked who.t who.marks a.kept.now q.slot a.j c.if-replied-j-eq0.true)
 
 names-at-requires : tie.Need-names_at-requires
-names-at-requires c κs = let p = c.before.before.before.before.before.requires in (
+names-at-requires c κs = let p = c.requires in (
   p.0,
   p.1,
   omega
@@ -44,8 +44,8 @@ returns-2 c =
     let p = at-start.requires in
     let l : a.j < most_servers = omega (arith, p.2, few p.0) in
     sym (fits-marked who.t who.marks a.kept.now q.slot a.d.now p.3 a.j l (is-marked who.marks a.j
-    c.before.before.if-replied-j-eq0.false)
-    ∙ rw (sym c.before.names_at.ensures ∙ not-true c.before.names_at.result c.if-not-names_at.true))
+    c.if-replied-j-eq0.false)
+    ∙ rw (sym c.names_at.ensures ∙ not-true c.names_at.result c.if-not-names_at.true))
 
 intact-at-requires : tie.Need-intact_at-requires
 unfolding slot_held
@@ -58,7 +58,7 @@ intact-at-requires c κs =
       p.0,
       p.2,
       names_full (shelf who.t) (reply_slot_of a.kept.now a.j) (candidates_in (shelf who.t) a.kept.now (suc q.slot)) a.d.now
-          (sym c.before.names_at.ensures ∙ not-false c.before.names_at.result c.if-not-names_at.false),
+          (sym c.names_at.ensures ∙ not-false c.names_at.result c.if-not-names_at.false),
     )
 
 returns-3 : tie.Need-returns
@@ -71,8 +71,8 @@ returns-3 c =
     let l : a.j < most_servers = omega (arith, p.2, few p.0) in
     c.intact_at.ensures
     ∙ sym (fits-marked who.t who.marks a.kept.now q.slot a.d.now p.3 a.j l
-    (is-marked who.marks a.j c.before.before.before.if-replied-j-eq0.false)
-    ∙ rw (sym c.before.before.names_at.ensures ∙ not-false c.before.before.names_at.result c.before.if-not-names_at.false))
+    (is-marked who.marks a.j c.if-replied-j-eq0.false)
+    ∙ rw (sym c.names_at.ensures ∙ not-false c.names_at.result c.if-not-names_at.false))
 
 pub fits_spec : {M : Type 1} → statement M
 fits_spec = tie.close (tie.spec element-copy-out-if1 returns names-at-requires returns-2 intact-at-requires returns-3)

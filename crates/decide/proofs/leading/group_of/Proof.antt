@@ -16,20 +16,20 @@ use Rattle.decide.proofs.leading.group_of.Statement.{statement}
 use Rattle.decide.proofs.leading.group_of.Tie as tie
 
 fits-requires : tie.Need-fits-requires
-fits-requires c κs = let p = c.before.before.requires in (p.0, p.1, p.2, p.3)
+fits-requires c κs = let p = c.requires in (p.0, p.1, p.2, p.3)
 
 returns : tie.Need-returns-then-not-fits
 returns c =
-    let a = c.before.before.before.before.before.args in
+    let a = c.args in
     let q = a.sought in
     let who = q.replied in
     nobody-leads who.t who.marks a.kept.now q.slot a.b _ c.no_group.ensures
     (leads_unfit who.t who.marks a.kept.now q.slot a.b (sym c.before.before.fits2.ensures ∙ not-true
     c.before.before.fits2.result
-    c.before.if-not-fits.true))
+    c.if-not-fits.true))
 
 members-of-requires : tie.Need-members_of-m-requires
-members-of-requires c κs = let p = c.before.before.before.before.requires in (
+members-of-requires c κs = let p = c.requires in (
   p.0,
   p.1,
   p.2,
@@ -53,11 +53,11 @@ returns-2 c =
     let who = q.replied in
     nobody-leads who.t who.marks a.kept.now q.slot a.b _ c.no_group-then-m-threshold.ensures
     (leads-few who.t who.marks a.kept.now q.slot a.b (sym at-members-of.before.before.fits2.ensures ∙ not-false
-    at-members-of.before.before.fits2.result at-members-of.before.if-not-fits.false) (omega (
+    at-members-of.before.before.fits2.result at-members-of.if-not-fits.false) (omega (
       arith,
-      c.before.if-m-threshold.true,
+      c.if-m-threshold.true,
       at-members-of.members_of-m.ensures.count,
-      c.before.before.before.threshold.ensures.0,
+      c.threshold.ensures.0,
     )))
 
 -- the slot is one of few
@@ -72,12 +72,12 @@ returns-3 c =
     let who = q.replied in
     let m = at-members-of.members_of-m.ensures in
     let l : (shelf who.t).threshold ≤ length (members_at who.t who.marks a.kept.now q.slot a.b) = omega
-    (arith, c.before.if-m-threshold.false, m.count, c.before.before.before.threshold.ensures.0) in
+    (arith, c.if-m-threshold.false, m.count, c.threshold.ensures.0) in
     let k : (shelf who.t).threshold ≡ at-members-of.members_of-m.result.count = omega
     (arith, l, m.count, members-most who.t who.marks a.kept.now q.slot a.b) in
     slot-leads who.t who.marks a.kept.now q.slot a.b _ (add-one a.b)
     (leads_enough who.t who.marks a.kept.now q.slot a.b (sym at-members-of.before.before.fits2.ensures ∙ not-false
-    at-members-of.before.before.fits2.result at-members-of.before.if-not-fits.false) l)
+    at-members-of.before.before.fits2.result at-members-of.if-not-fits.false) l)
     (ap (λ (x : ℕ). take x at-members-of.members_of-m.result.servers) k ∙ m.these)
 
 pub group_of_spec : {M : Type 1} → statement M

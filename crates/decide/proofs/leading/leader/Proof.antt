@@ -22,11 +22,11 @@ abbrev decreases-loop : tie.decreases-loop-b
 decreases-loop kept sought at d s b₀ b = s - b
 
 servers-requires : tie.Need-servers-s-requires invariant-loop decreases-loop
-servers-requires c κs = c.before.before.before.before.requires.0.high
+servers-requires c κs = c.requires.0.high
 
 loop-holds : tie.Need-loop-b-init invariant-loop decreases-loop
 loop-holds c =
-    let a = c.before.before.before.before.before.args in
+    let a = c.args in
     let q = a.sought in
     let who = q.replied in
     (omega arith, leader_none who.t who.marks a.kept.now q.slot)
@@ -45,8 +45,8 @@ group-of-requires c κs =
     let p = at-start.requires in (
       p.0,
       p.1,
-      omega (arith, c.before.before.before.servers-s.ensures.0),
-      at-loop.before.before.digest-d.ensures ∙ ap sha256
+      omega (arith, c.servers-s.ensures.0),
+      at-loop.digest-d.ensures ∙ ap sha256
           (part_of a.kept.now (candidates_place + candidate_slot * q.slot + stamp_size) digest_size ∙ sym
           (nonce_in (shelf who.t) a.kept.now q.slot p.1)),
     )
@@ -61,7 +61,7 @@ returns c =
     let v = at-loop.loop-b.invariant in
     let g = c.before.before.Group-of.ensures in
     first-leads who.t who.marks a.kept.now q.slot at-loop.loop-b.b c.before.before.Group-of.result
-    (omega (arith, at-loop.before.servers-s.ensures.0)) v.1 g c.if-g-ne0.true
+    (omega (arith, at-loop.servers-s.ensures.0)) v.1 g c.if-g-ne0.true
 
 abbrev at-loop-from-else1 : tie.Else-g-ne0 invariant-loop decreases-loop → tie.At-loop-b invariant-loop decreases-loop
 at-loop-from-else1 c = c.before.before.before.before.before
@@ -71,7 +71,7 @@ add-b c =
     let at-loop = at-loop-from-else1 c in
     omega (
       arith,
-      at-loop.before.servers-s.ensures.1,
+      at-loop.servers-s.ensures.1,
       (start-from-at-loop at-loop).requires.0.high,
     )
 
@@ -91,16 +91,16 @@ returns-2 c =
     let a = (start-from-at-loop c.before.before).args in
     let q = a.sought in
     let who = q.replied in
-    let e : c.before.before.loop-b.b ≡ (shelf who.t).servers = omega (arith, c.before.before.before.servers-s.ensures.0) in
+    let e : c.loop-b.b ≡ (shelf who.t).servers = omega (arith, c.servers-s.ensures.0) in
     no_group_lem who.t who.marks a.kept.now q.slot (leader_at who.t who.marks a.kept.now q.slot (shelf who.t).servers) _
     c.no_group.ensures
-    (sym (ap (leader_at who.t who.marks a.kept.now q.slot) e) ∙ c.before.before.loop-b.invariant.1)
+    (sym (ap (leader_at who.t who.marks a.kept.now q.slot) e) ∙ c.loop-b.invariant.1)
 
 pub leader_spec : {M : Type 1} → statement M
-leader_spec = tie.close (tie.spec invariant-loop decreases-loop (λ c. omega (arith, c.before.before.requires.0.size)) (λ c. omega
-    (arith, c.before.before.requires.0.size))
-    (λ c. omega (arith, c.before.before.requires.0.size)) (λ c. omega (arith, c.before.before.requires.0.size)) (λ c. omega
-    (arith, c.before.before.requires.0.size))
-    (λ c. omega (arith, c.before.before.requires.0.size)) (λ c. omega (arith, c.before.before.requires.0.size))
+leader_spec = tie.close (tie.spec invariant-loop decreases-loop (λ c. omega (arith, c.requires.0.size)) (λ c. omega
+    (arith, c.requires.0.size))
+    (λ c. omega (arith, c.requires.0.size)) (λ c. omega (arith, c.requires.0.size)) (λ c. omega
+    (arith, c.requires.0.size))
+    (λ c. omega (arith, c.requires.0.size)) (λ c. omega (arith, c.requires.0.size))
     (λ c κs. search rules) servers-requires loop-holds
     (λ c. search rules) group-of-requires returns add-b (λ c. omega arith) loop-again (λ c κs. search rules) returns-2)

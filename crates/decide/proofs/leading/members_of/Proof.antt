@@ -49,10 +49,10 @@ every t marks kept i b r j h k e f =
     record { count = e ∙ ap length w ∙ sym (ap length m); these = f ∙ w ∙ sym m }
 
 servers-requires : tie.Need-servers-s-requires invariant-loop decreases-loop
-servers-requires c κs = c.before.before.requires.0.high
+servers-requires c κs = c.requires.0.high
 
 threshold-requires : tie.Need-threshold-k-requires invariant-loop decreases-loop
-threshold-requires c κs = c.before.before.before.requires.0.high
+threshold-requires c κs = c.requires.0.high
 
 loop-holds : tie.Need-loop-j-init invariant-loop decreases-loop
 unfolding servers_of_def
@@ -68,23 +68,23 @@ returns c =
     let a = (start-from-threshold at-threshold).args in
     let q = a.sought in
     let who = q.replied in
-    let v = c.before.before.loop-j.invariant in
+    let v = c.loop-j.invariant in
     enough who.t who.marks a.kept.now q.slot a.b (record {
-      count = c.before.before.loop-j.n;
-      servers = c.before.before.loop-j.out;
+      count = c.loop-j.n;
+      servers = c.loop-j.out;
     })
-    c.before.before.loop-j.j (omega (arith, at-threshold.before.servers-s.ensures.0)) (omega (
+    c.loop-j.j (omega (arith, at-threshold.servers-s.ensures.0)) (omega (
       arith,
-      c.before.before.before.threshold-k.ensures.0,
+      c.threshold-k.ensures.0,
       c.if-n-k.true,
     )) v.3 v.4
 
 array-write-out : tie.Need-bounds-out-n invariant-loop decreases-loop
-array-write-out c = let v = c.before.before.loop-j.invariant in omega (
+array-write-out c = let v = c.loop-j.invariant in omega (
   arith,
   v.1,
   v.2,
-  c.before.before.before.threshold-k.ensures.1,
+  c.threshold-k.ensures.1,
   (start-from-threshold c.before.before.before).requires.0.high,
 )
 
@@ -95,7 +95,7 @@ agrees-requires c κs =
       p.0,
       p.1,
       p.2,
-      omega (arith, at-threshold.before.servers-s.ensures.0),
+      omega (arith, at-threshold.servers-s.ensures.0),
       p.3,
       p.4,
     )
@@ -112,10 +112,10 @@ add-n c =
     let who = q.replied in
     omega (
       arith,
-      c.before.before.before.loop-j.invariant.1,
+      c.loop-j.invariant.1,
       c.agrees-n.ensures,
       bit_le
-          (agrees_at_def who.t who.marks a.kept.now q.slot a.b (suc c.before.before.before.loop-j.j)),
+          (agrees_at_def who.t who.marks a.kept.now q.slot a.b (suc c.loop-j.j)),
       at-threshold.threshold-k.ensures.1,
       at-start.requires.0.high,
     )
@@ -125,7 +125,7 @@ add-j c =
     let at-threshold = threshold-from-agrees c in
     omega (
       arith,
-      at-threshold.before.servers-s.ensures.1,
+      at-threshold.servers-s.ensures.1,
       (start-from-threshold at-threshold).requires.0.high,
     )
 
@@ -136,14 +136,14 @@ loop-again c =
     let a = at-start.args in
     let q = a.sought in
     let who = q.replied in
-    let v = c.before.before.before.loop-j.invariant in
+    let v = c.loop-j.invariant in
     let p = agrees_at_def who.t who.marks a.kept.now q.slot a.b in
     let k = at-threshold.threshold-k.ensures.1 in
-    let w = servers_step p c.before.before.before.loop-j.j c.before.before.before.loop-j.n c.before.before.before.loop-j.out v.3
+    let w = servers_step p c.loop-j.j c.loop-j.n c.loop-j.out v.3
     v.4 (omega (arith, v.1, v.2, k, at-start.requires.0.high)) in (
       omega arith,
-      omega (arith, v.1, c.before.if-n-k.false, c.agrees-n.ensures, bit_le (p (suc c.before.before.before.loop-j.j))),
-      length-set c.before.before.before.loop-j.out c.before.before.before.loop-j.n (c.before.before.before.loop-j.j + 1) ∙ v.2,
+      omega (arith, v.1, c.if-n-k.false, c.agrees-n.ensures, bit_le (p (suc c.loop-j.j))),
+      length-set c.loop-j.out c.loop-j.n (c.loop-j.j + 1) ∙ v.2,
       rw c.agrees-n.ensures w.0,
       rw c.agrees-n.ensures w.1,
     )
@@ -153,10 +153,10 @@ returns-2 c =
     let a = (start-from-threshold c.before.before).args in
     let q = a.sought in
     let who = q.replied in
-    let v = c.before.loop-j.invariant in
-    every who.t who.marks a.kept.now q.slot a.b (record { count = c.before.loop-j.n; servers = c.before.loop-j.out })
-    c.before.loop-j.j
-    (omega (arith, c.before.before.before.servers-s.ensures.0)) (omega (arith, v.1, c.before.before.threshold-k.ensures.0)) v.3 v.4
+    let v = c.loop-j.invariant in
+    every who.t who.marks a.kept.now q.slot a.b (record { count = c.loop-j.n; servers = c.loop-j.out })
+    c.loop-j.j
+    (omega (arith, c.servers-s.ensures.0)) (omega (arith, v.1, c.threshold-k.ensures.0)) v.3 v.4
 
 pub members_of_spec : {M : Type 1} → statement M
 members_of_spec = tie.close (tie.spec invariant-loop decreases-loop servers-requires threshold-requires loop-holds returns (λ c. search rules) (λ c. search rules)

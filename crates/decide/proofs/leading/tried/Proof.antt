@@ -17,35 +17,35 @@ use Rattle.decide.proofs.leading.tried.Tie as tie
 returns : tie.Need-returns-then-rank_at-key
 returns c =
     let at-rank-at = c.before.before in
-    let a = at-rank-at.before.before.before.args in
+    let a = at-rank-at.args in
     let q = a.sought in
     let who = q.replied in
     let n = leader_at who.t who.marks a.kept.now q.slot (shelf who.t).servers in
     no_group_lem who.t who.marks a.kept.now q.slot (cond (tried_at who.t a.kept.now a.key q.slot) n 0) _ c.no_group.ensures
-    (rw (other-rank who.t a.kept.now a.key q.slot (λ e. c.before.if-rank_at-key.true
-    (c.before.before.rank_at.ensures ∙ sym (candidate-rank (shelf who.t) a.kept.now q.slot
-    at-rank-at.before.before.before.requires.1) ∙ e))))
+    (rw (other-rank who.t a.kept.now a.key q.slot (λ e. c.if-rank_at-key.true
+    (c.rank_at.ensures ∙ sym (candidate-rank (shelf who.t) a.kept.now q.slot
+    at-rank-at.requires.1) ∙ e))))
 
 returns-2 : tie.Need-returns-then-entry-eq0
 returns-2 c =
-    let a = c.before.before.before.before.before.before.before.args in
+    let a = c.args in
     let q = a.sought in
     let who = q.replied in
     let n = leader_at who.t who.marks a.kept.now q.slot (shelf who.t).servers in
     no_group_lem who.t who.marks a.kept.now q.slot (cond (tried_at who.t a.kept.now a.key q.slot) n 0) _ c.no_group-then-entry-eq0.ensures
     (rw (not_listed who.t a.kept.now a.key q.slot (bit_some (enters (candidates_in (shelf who.t) a.kept.now) (suc q.slot))
-    (sym c.before.before.entry.ensures ∙ c.before.if-entry-eq0.true))))
+    (sym c.entry.ensures ∙ c.if-entry-eq0.true))))
 
 returns-3 : tie.Need-returns
 returns-3 c =
     let at-rank-at = c.before.before.before.before in
-    let a = at-rank-at.before.before.before.args in
+    let a = at-rank-at.args in
     let q = a.sought in
     let who = q.replied in
     rw (is-tried who.t a.kept.now a.key q.slot (candidate-rank (shelf who.t) a.kept.now q.slot
-    at-rank-at.before.before.before.requires.1 ∙ sym at-rank-at.rank_at.ensures ∙ c.before.before.before.if-rank_at-key.false)
-    (bit_here (enters (candidates_in (shelf who.t) a.kept.now) (suc q.slot)) (λ e. c.before.if-entry-eq0.false
-    (c.before.before.entry.ensures ∙ e))))
+    at-rank-at.requires.1 ∙ sym at-rank-at.rank_at.ensures ∙ c.if-rank_at-key.false)
+    (bit_here (enters (candidates_in (shelf who.t) a.kept.now) (suc q.slot)) (λ e. c.if-entry-eq0.false
+    (c.entry.ensures ∙ e))))
     c.leader.ensures
 
 pub tried_spec : {M : Type 1} → statement M

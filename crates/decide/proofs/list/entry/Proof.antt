@@ -42,11 +42,11 @@ one_more p j h e k l = go (eqb k j) refl
 
 returns : tie.Need-returns-then-rank_at-le-BLANK_RANK invariant-loop decreases-loop
 returns c =
-    let a = c.before.before.before.args in
-    let p = c.before.before.before.requires in
+    let a = c.args in
+    let p = c.requires in
     rw (enters-blank (candidates_in (shelf a.t) a.kept.now) a.i
     (low-rank (candidates_in (shelf a.t) a.kept.now (suc a.i)).stamp
-    (omega (arith, candidate-rank (shelf a.t) a.kept.now a.i p.1, c.before.rank_at.ensures))))
+    (omega (arith, candidate-rank (shelf a.t) a.kept.now a.i p.1, c.rank_at.ensures))))
 
 loop-holds : tie.Need-loop-j-init invariant-loop decreases-loop
 loop-holds c = (search rules, λ k l. absurd (omega arith))
@@ -54,32 +54,32 @@ loop-holds c = (search rules, λ k l. absurd (omega arith))
 returns-2 : tie.Need-returns-then-twins invariant-loop decreases-loop
 returns-2 c =
     let z = c.before.before.before.before.before in
-    let a = z.before.before.args in
-    let p = z.before.before.requires in
-    rw (enters_twin (candidates_in (shelf a.t) a.kept.now) a.i c.before.before.before.loop-j.j
-    (stamp a.t a.kept.now a.i z.rank_at.result (λ k. (z.before.shared_slice_known-1.given k).fits) p.1 z.rank_at.ensures
+    let a = z.args in
+    let p = z.requires in
+    rw (enters_twin (candidates_in (shelf a.t) a.kept.now) a.i c.loop-j.j
+    (stamp a.t a.kept.now a.i z.rank_at.result (λ k. (z.shared_slice_known-1.given k).fits) p.1 z.rank_at.ensures
     (omega arith))
-    (omega arith) (sym c.before.twins.ensures ∙ c.if-twins.true))
+    (omega arith) (sym c.twins.ensures ∙ c.if-twins.true))
 
 loop-again : tie.Need-loop-j-preserved invariant-loop decreases-loop
 loop-again c =
-    let a = c.before.before.before.before.before.before.before.args in (
+    let a = c.args in (
       search rules,
       one_more (λ (k : ℕ). same_candidate (candidates_in (shelf a.t) a.kept.now (suc a.i))
           (candidates_in (shelf a.t) a.kept.now (suc k)))
-          c.before.before.before.loop-j.j c.before.before.before.loop-j.invariant.1 (sym c.before.twins.ensures ∙ c.if-twins.false),
+          c.loop-j.j c.loop-j.invariant.1 (sym c.twins.ensures ∙ c.if-twins.false),
     )
 
 returns-3 : tie.Need-returns invariant-loop decreases-loop
 returns-3 c =
     let z = c.before.before.before in
-    let a = z.before.before.args in
-    let p = z.before.before.requires in
-    let e : c.before.loop-j.j ≡ a.i = omega arith in
+    let a = z.args in
+    let p = z.requires in
+    let e : c.loop-j.j ≡ a.i = omega arith in
     rw (enters_new (candidates_in (shelf a.t) a.kept.now) a.i
-    (stamp a.t a.kept.now a.i z.rank_at.result (λ k. (z.before.shared_slice_known-1.given k).fits) p.1 z.rank_at.ensures
+    (stamp a.t a.kept.now a.i z.rank_at.result (λ k. (z.shared_slice_known-1.given k).fits) p.1 z.rank_at.ensures
     (omega arith))
-    (λ j l. c.before.loop-j.invariant.1 j (omega arith)))
+    (λ j l. c.loop-j.invariant.1 j (omega arith)))
 
 pub entry_spec : {M : Type 1} → statement M
 entry_spec = tie.close (tie.spec invariant-loop decreases-loop (λ c. search rules) (λ c. search rules) (λ c κs. search rules) returns loop-holds

@@ -11,9 +11,9 @@ use Rattle.decide.proofs.list.twins.Tie as tie
 returns : tie.Need-returns
 returns c =
     let at-shared-slice-known = c.before.before.before.before in
-    let a = at-shared-slice-known.before.args in
-    let p = at-shared-slice-known.before.requires in
-    let s = c.before.before.before.servers.ensures in
+    let a = at-shared-slice-known.args in
+    let p = at-shared-slice-known.requires in
+    let s = c.servers.ensures in
     c.same.ensures ∙ rw (part_of, part_of, s.0)
     (same_slots (shelf a.t) a.kept.now a.i a.j (omega arith) (λ k. (at-shared-slice-known.shared_slice_known-1.given k).fits)
     p.0.size p.1 p.2)

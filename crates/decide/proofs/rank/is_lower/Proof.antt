@@ -9,24 +9,24 @@ use Rattle.decide.proofs.rank.is_lower.Statement.{statement}
 use Rattle.decide.proofs.rank.is_lower.Tie as tie
 
 returns : tie.Need-returns-then-mark-eq0
-returns c = rw (eq-eqb c.before.before.args.mark 0 c.if-mark-eq0.true)
+returns c = rw (eq-eqb c.args.mark 0 c.if-mark-eq0.true)
 
 returns-2 : tie.Need-returns-then-rank_at-key
 returns-2 c =
-    let a = c.before.before.before.before.args in
+    let a = c.args in
     rw (
-      ne_eqb a.mark 0 c.before.before.if-mark-eq0.false,
+      ne_eqb a.mark 0 c.if-mark-eq0.false,
       lt-ltb (rank_at a.kept.now (replies_place + reply_slot * a.j)) a.key
-          (omega (arith, c.before.rank_at.ensures)),
+          (omega (arith, c.rank_at.ensures)),
     )
 
 returns-3 : tie.Need-returns
 returns-3 c =
-    let a = c.before.before.before.before.args in
+    let a = c.args in
     rw (
-      ne_eqb a.mark 0 c.before.before.if-mark-eq0.false,
+      ne_eqb a.mark 0 c.if-mark-eq0.false,
       le-ltb (rank_at a.kept.now (replies_place + reply_slot * a.j)) a.key
-          (omega (arith, c.before.rank_at.ensures)),
+          (omega (arith, c.rank_at.ensures)),
     )
 
 pub is_lower_spec : {M : Type 1} → statement M

@@ -15,9 +15,9 @@ returns c =
     let a = at-start.args in
     rw (
       candidate-rank (shelf a.sought.replied.t) a.kept.now a.sought.slot at-start.requires.1,
-      ← c.before.rank_at-key.ensures,
+      ← c.rank_at-key.ensures,
       le-ltb a.top
-          c.before.rank_at-key.result (omega arith),
+          c.rank_at-key.result (omega arith),
     )
 
 returns-2 : tie.Need-returns-then-stays
@@ -28,10 +28,10 @@ returns-2 c =
     rw (
       candidate-rank (shelf a.sought.replied.t) a.kept.now a.sought.slot at-start.requires.1,
       ←
-          c.before.before.before.rank_at-key.ensures,
-      lt-ltb a.top c.before.before.before.rank_at-key.result (omega arith),
+          c.rank_at-key.ensures,
+      lt-ltb a.top c.rank_at-key.result (omega arith),
       ←
-          c.before.stays.ensures,
+          c.stays.ensures,
       c.if-stays.true,
     )
 
@@ -43,10 +43,10 @@ returns-3 c =
     rw (
       candidate-rank (shelf a.sought.replied.t) a.kept.now a.sought.slot at-start.requires.1,
       ←
-          c.before.before.before.rank_at-key.ensures,
-      lt-ltb a.top c.before.before.before.rank_at-key.result (omega arith),
+          c.rank_at-key.ensures,
+      lt-ltb a.top c.rank_at-key.result (omega arith),
       ←
-          c.before.stays.ensures,
+          c.stays.ensures,
       c.if-stays.false,
     )
 

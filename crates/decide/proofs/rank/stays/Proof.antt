@@ -27,7 +27,7 @@ decreases-loop kept key replied s n₀ j₀ n j = s - j
 
 loop-holds : tie.Need-loop-j-init invariant-loop decreases-loop
 loop-holds c =
-    let a = c.before.before.args in
+    let a = c.args in
     (omega arith, sym (count_none (ranks_below (marked a.replied.marks) (replies_in (shelf a.replied.t) a.replied.marks a.kept.now) a.key)))
 
 -- Places far back, each named once: the place, and from where it is seen.
@@ -35,7 +35,7 @@ abbrev start-from-in-loop : tie.In-loop-j invariant-loop decreases-loop → tie.
 start-from-in-loop c = c.before.before.before.before
 
 element-copy-out-is-lower : tie.Need-bounds-replied-j invariant-loop decreases-loop
-element-copy-out-is-lower c = omega (arith, c.before.before.servers-s.ensures.1, (start-from-in-loop c).requires.high)
+element-copy-out-is-lower c = omega (arith, c.servers-s.ensures.1, (start-from-in-loop c).requires.high)
 
 is-lower-requires : tie.Need-is_lower-n-requires invariant-loop decreases-loop
 is-lower-requires c κs =
@@ -44,7 +44,7 @@ is-lower-requires c κs =
       at-start.requires.size,
       omega (
         arith,
-        at-in-loop.before.before.servers-s.ensures.1,
+        at-in-loop.servers-s.ensures.1,
         at-start.requires.high,
       ),
     )
@@ -53,8 +53,8 @@ abbrev start-from-is-lower : tie.After-is_lower-n invariant-loop decreases-loop 
 start-from-is-lower c = start-from-in-loop c.before.before
 
 -- the slot that is looked at is one of the array's
-slot-low : (c : tie.After-is_lower-n invariant-loop decreases-loop) → c.before.before.before.loop-j.j < most_servers
-slot-low c = omega (arith, c.before.before.before.before.servers-s.ensures.1, (start-from-is-lower c).requires.high)
+slot-low : (c : tie.After-is_lower-n invariant-loop decreases-loop) → c.loop-j.j < most_servers
+slot-low c = omega (arith, c.servers-s.ensures.1, (start-from-is-lower c).requires.high)
 
 add-n : tie.Need-overflow_add-n invariant-loop decreases-loop
 add-n c =
@@ -64,40 +64,40 @@ add-n c =
     let j = slot-low c in
     omega (
       arith,
-      c.before.before.before.loop-j.invariant.1,
-      count-le c.before.before.before.loop-j.j p,
+      c.loop-j.invariant.1,
+      count-le c.loop-j.j p,
       c.is_lower-n.ensures,
       at-start.requires.high,
-      c.before.before.before.before.servers-s.ensures.1,
-      bit_le (not (eqb (get_or a.replied.marks c.before.before.before.loop-j.j 0) 0) && ltb (rank_at a.kept.now
-          (replies_place + reply_slot * c.before.before.before.loop-j.j)) a.key),
+      c.servers-s.ensures.1,
+      bit_le (not (eqb (get_or a.replied.marks c.loop-j.j 0) 0) && ltb (rank_at a.kept.now
+          (replies_place + reply_slot * c.loop-j.j)) a.key),
     )
 
 add-j : tie.Need-overflow_add-j invariant-loop decreases-loop
-add-j c = omega (arith, c.before.before.before.before.servers-s.ensures.1, (start-from-is-lower c).requires.high)
+add-j c = omega (arith, c.servers-s.ensures.1, (start-from-is-lower c).requires.high)
 
 loop-again : tie.Need-loop-j-preserved invariant-loop decreases-loop
 loop-again c =
     let a = (start-from-is-lower c).args in
     let p = ranks_below (marked a.replied.marks) (replies_in (shelf a.replied.t) a.replied.marks a.kept.now) a.key in
     let j = slot-low c in
-    let e : c.is_lower-n.result ≡ bit (p (suc c.before.before.before.loop-j.j)) = c.is_lower-n.ensures ∙ ap bit
-    (sym (below-slot (shelf a.replied.t) a.kept.now a.replied.marks a.key c.before.before.before.loop-j.j j)) in
-    (omega arith, omega (arith, c.before.before.before.loop-j.invariant.1, count_more c.before.before.before.loop-j.j p, e))
+    let e : c.is_lower-n.result ≡ bit (p (suc c.loop-j.j)) = c.is_lower-n.ensures ∙ ap bit
+    (sym (below-slot (shelf a.replied.t) a.kept.now a.replied.marks a.key c.loop-j.j j)) in
+    (omega arith, omega (arith, c.loop-j.invariant.1, count_more c.loop-j.j p, e))
 
 sub-result : tie.Need-overflow_sub-result invariant-loop decreases-loop
-sub-result c = omega (arith, c.before.before.servers-s.ensures.1)
+sub-result c = omega (arith, c.servers-s.ensures.1)
 
 returns : tie.Need-returns invariant-loop decreases-loop
 unfolding stays
 returns c =
-    let a = c.before.before.before.before.args in
+    let a = c.args in
     let p = ranks_below (marked a.replied.marks) (replies_in (shelf a.replied.t) a.replied.marks a.kept.now) a.key in
-    let e : c.before.loop-j.j ≡ (shelf a.replied.t).servers = omega (arith, c.before.before.servers-s.ensures.0) in
-    let n : c.before.loop-j.n ≡ count_to (shelf a.replied.t).servers p = c.before.loop-j.invariant.1 ∙ ap (λ (k : ℕ). count_to k p) e in
-    ap (λ (x : ℕ). ltb x (c.before.before.servers-s.result - a.replied.t)) n
-    ∙ ap (λ (x : ℕ). ltb (count_to (shelf a.replied.t).servers p) x) (quorum_of a.replied.t c.before.before.servers-s.result
-    c.before.before.servers-s.ensures.1)
+    let e : c.loop-j.j ≡ (shelf a.replied.t).servers = omega (arith, c.servers-s.ensures.0) in
+    let n : c.loop-j.n ≡ count_to (shelf a.replied.t).servers p = c.loop-j.invariant.1 ∙ ap (λ (k : ℕ). count_to k p) e in
+    ap (λ (x : ℕ). ltb x (c.servers-s.result - a.replied.t)) n
+    ∙ ap (λ (x : ℕ). ltb (count_to (shelf a.replied.t).servers p) x) (quorum_of a.replied.t c.servers-s.result
+    c.servers-s.ensures.1)
 
 pub stays_spec : {M : Type 1} → statement M
 stays_spec = tie.close (tie.spec invariant-loop decreases-loop (λ c κs. search rules) loop-holds element-copy-out-is-lower is-lower-requires add-n add-j

@@ -26,23 +26,23 @@ raised-requires c κs =
       at-start.requires,
       omega (
         arith,
-        c.before.before.servers-s.ensures.1,
+        c.servers-s.ensures.1,
         at-start.requires.high,
       ),
     )
 
 add-i : tie.Need-overflow_add-i invariant-loop decreases-loop
-add-i c = omega (arith, c.before.before.before.servers-s.ensures.1, c.before.before.before.before.before.requires.high)
+add-i c = omega (arith, c.servers-s.ensures.1, c.requires.high)
 
 loop-again : tie.Need-loop-i-preserved invariant-loop decreases-loop
 unfolding top_at top_rank
-loop-again c = (omega arith, rw (add-one, ← c.before.before.loop-i.invariant.1) c.raised-higher.ensures)
+loop-again c = (omega arith, rw (add-one, ← c.loop-i.invariant.1) c.raised-higher.ensures)
 
 returns : tie.Need-returns invariant-loop decreases-loop
 returns c =
     let at-start = c.before.before.before.before in
-    let e : c.before.loop-i.i ≡ (shelf at-start.args.replied.t).servers = omega
-    (arith, c.before.before.servers-s.ensures.0) in c.before.loop-i.invariant.1 ∙ ap (λ (k : ℕ). top_at at-start.args.replied.t
+    let e : c.loop-i.i ≡ (shelf at-start.args.replied.t).servers = omega
+    (arith, c.servers-s.ensures.0) in c.loop-i.invariant.1 ∙ ap (λ (k : ℕ). top_at at-start.args.replied.t
     at-start.args.replied.marks
     at-start.args.kept.now k) e
 

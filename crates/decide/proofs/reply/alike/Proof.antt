@@ -18,13 +18,13 @@ use Rattle.decide.proofs.reply.alike.Tie as tie
 returns : tie.Need-returns-then-size_of-n
 returns c =
     let at-size-of = c.before.before in
-    let a = at-size-of.before.before.before.args in
-    let p = at-size-of.before.before.before.requires in
+    let a = at-size-of.args in
+    let p = at-size-of.requires in
     sym (alike-not (shelf a.t) a.a.now a.b.now p.4 p.5 (λ e. c.if-size_of-n.true
-    (c.before.size_of-n.ensures ∙ e ∙ sym c.before.before.type_size.ensures)))
+    (c.size_of-n.ensures ∙ e ∙ sym c.before.before.type_size.ensures)))
 
 digests-at-requires : tie.Need-digests_at-at-requires
-digests-at-requires c κs = let p = c.before.before.before.before.before.requires in (
+digests-at-requires c κs = let p = c.requires in (
   p.0,
   p.1,
   omega
@@ -34,46 +34,46 @@ digests-at-requires c κs = let p = c.before.before.before.before.before.require
 tags-place-requires : tie.Need-tags_place-requires
 tags-place-requires c κs =
     let at-size-of = c.before.before.before in
-    let p = at-size-of.before.before.before.requires in (p.0, p.1, omega (arith, at-size-of.type_size.ensures, p.4.top))
+    let p = at-size-of.requires in (p.0, p.1, omega (arith, at-size-of.type_size.ensures, p.4.top))
 
 -- Places far back, each named once: the place, and from where it is seen.
 abbrev size-of-from-tags-place : tie.After-tags_place → tie.After-size_of-n
 size-of-from-tags-place c = c.before.before.before.before
 
 servers-requires : tie.Need-servers-requires
-servers-requires c κs = (size-of-from-tags-place c).before.before.before.requires.1
+servers-requires c κs = (size-of-from-tags-place c).requires.1
 
 -- the runs end within both replies
 fine : (c : tie.After-servers)
-    → (length (size-of-from-tags-place c.before).before.before.before.args.a.now ≡ reply_slot)
-    × (length (size-of-from-tags-place c.before).before.before.before.args.b.now ≡ reply_slot)
-    × (c.before.before.digests_at-at.result ≤ c.before.tags_place.result)
-    × (c.before.tags_place.result + tag_size * c.servers.result ≤ reply_slot)
+    → (length (size-of-from-tags-place c.before).args.a.now ≡ reply_slot)
+    × (length (size-of-from-tags-place c.before).args.b.now ≡ reply_slot)
+    × (c.digests_at-at.result ≤ c.tags_place.result)
+    × (c.tags_place.result + tag_size * c.servers.result ≤ reply_slot)
 fine c =
-    let p = (size-of-from-tags-place c.before).before.before.before.requires in
-    let q = c.before.tags_place.ensures in
-    (p.2, p.3, omega (arith, c.before.before.digests_at-at.ensures.place, q.place), omega (arith, q.room, c.servers.ensures.0))
+    let p = (size-of-from-tags-place c.before).requires in
+    let q = c.tags_place.ensures in
+    (p.2, p.3, omega (arith, c.digests_at-at.ensures.place, q.place), omega (arith, q.room, c.servers.ensures.0))
 
 returns-2 : tie.Need-returns
 returns-2 c =
     let at-tags-place = c.before.before.before.before in
     let at-size-of = size-of-from-tags-place at-tags-place in
-    let a = at-size-of.before.before.before.args in
-    let p = at-size-of.before.before.before.requires in
+    let a = at-size-of.args in
+    let p = at-size-of.requires in
     let s = shelf a.t in
-    let r = at-tags-place.before.digests_at-at.ensures in
+    let r = at-tags-place.digests_at-at.ensures in
     let z = ap (fragment_size_def (shelf a.t).threshold) at-size-of.type_size.ensures in
-    let at : ℕ = at-tags-place.before.digests_at-at.result in
+    let at : ℕ = at-tags-place.digests_at-at.result in
     let m : ℕ = at-tags-place.tags_place.result in
-    let o : ℕ = c.before.before.before.servers.result in
+    let o : ℕ = c.servers.result in
     let e : at ≡ digests_in_def (shelf a.t) a.a.now = omega (arith, r.place, z) in
     let l : m + tag_size * o - at ≡ digests_size_def (shelf a.t) + digest_size + tags_size_def (shelf a.t) = omega
-    (arith, r.place, at-tags-place.tags_place.ensures.place, c.before.before.before.servers.ensures.0) in
+    (arith, r.place, at-tags-place.tags_place.ensures.place, c.servers.ensures.0) in
     c.same.ensures
     ∙ cuts a.a.now a.b.now at (digests_in_def (shelf a.t) a.a.now) (m + tag_size * o - at)
     (digests_size_def (shelf a.t) + digest_size + tags_size_def (shelf a.t)) e l
     ∙ sym (alike_in (shelf a.t) a.a.now a.b.now p.4 p.5
-    (sym at-tags-place.before.before.before.size_of-n.ensures ∙ at-tags-place.before.before.if-size_of-n.false ∙ at-size-of.type_size.ensures)
+    (sym at-tags-place.size_of-n.ensures ∙ at-tags-place.if-size_of-n.false ∙ at-size-of.type_size.ensures)
     (omega (arith, r.room, e, p.2)) (omega (arith, r.room, e, p.3)))
   where
     cuts : (a b : List ℕ) (x y n m : ℕ) → x ≡ y → n ≡ m → same_list (take n (drop x a)) (take n (drop x b)) ≡ same_list (bytes_at a y m) (bytes_at b y m)

@@ -8,8 +8,8 @@ use Rattle.decide.proofs.reply.alike_at.Tie as tie
 
 alike-requires : tie.Need-alike-requires
 alike-requires c κs =
-    let a = c.before.before.before.args in
-    let p = c.before.before.before.requires in (
+    let a = c.args in
+    let p = c.requires in (
       p.0.low,
       p.0.high,
       lent_length a.kept.now a.b p.0.size p.1,
@@ -23,8 +23,8 @@ unfolding slot_held
 returns c = c.alike.ensures ∙ rw (slot_lent, slot_lent)
 
 pub alike_at_spec : {M : Type 1} → statement M
-alike_at_spec = tie.close (tie.spec (λ c. omega (arith, c.before.requires.0.size)) (λ c. omega (arith, c.before.requires.0.size))
-    (λ c. omega (arith, c.before.requires.0.size)) (λ c. omega (arith, c.before.requires.0.size)) (λ c. omega (arith, c.before.requires.0.size))
-    (λ c. omega (arith, c.before.requires.0.size)) (λ c. omega (arith, c.before.requires.0.size)) (λ c. omega (arith, c.before.requires.0.size))
-    (λ c. omega (arith, c.before.before.requires.0.size)) (λ c. omega (arith, c.before.before.requires.0.size))
-    (λ c. omega (arith, c.before.before.requires.0.size)) (λ c. omega (arith, c.before.before.requires.0.size)) alike-requires returns)
+alike_at_spec = tie.close (tie.spec (λ c. omega (arith, c.requires.0.size)) (λ c. omega (arith, c.requires.0.size))
+    (λ c. omega (arith, c.requires.0.size)) (λ c. omega (arith, c.requires.0.size)) (λ c. omega (arith, c.requires.0.size))
+    (λ c. omega (arith, c.requires.0.size)) (λ c. omega (arith, c.requires.0.size)) (λ c. omega (arith, c.requires.0.size))
+    (λ c. omega (arith, c.requires.0.size)) (λ c. omega (arith, c.requires.0.size))
+    (λ c. omega (arith, c.requires.0.size)) (λ c. omega (arith, c.requires.0.size)) alike-requires returns)

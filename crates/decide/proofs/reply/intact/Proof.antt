@@ -17,13 +17,13 @@ use Rattle.decide.proofs.reply.intact.Statement.{statement}
 use Rattle.decide.proofs.reply.intact.Tie as tie
 
 digests-at-requires : tie.Need-digests_at-e-requires
-digests-at-requires c κs = let p = c.before.before.requires in (p.0, p.1, omega (arith, c.type_size.ensures, p.3.top))
+digests-at-requires c κs = let p = c.requires in (p.0, p.1, omega (arith, c.type_size.ensures, p.3.top))
 
 -- the digest of server j + 1's fragment ends within the reply
 fine : (c : tie.After-digests_at-e)
-    → c.digests_at-e.result + digest_size * c.before.before.before.args.j + digest_size ≤ length c.before.before.before.args.reply.now
+    → c.digests_at-e.result + digest_size * c.args.j + digest_size ≤ length c.args.reply.now
 fine c =
-    let p = c.before.before.before.requires in
+    let p = c.requires in
     omega (arith, c.digests_at-e.ensures.room, p.2, p.4)
 
 -- Places far back, each named once: the place, and from where it is seen.
@@ -38,15 +38,15 @@ returns c =
     let p = at-start.requires in
     let F : ℕ = fragment_size_def (shelf a.t).threshold (size_in_def a.reply.now) in
     let z = ap (fragment_size_def (shelf a.t).threshold) at-share-fragment.before.before.before.type_size.ensures in
-    let e : at-share-fragment.before.before.digests_at-e.result ≡ digests_in_def (shelf a.t) a.reply.now = omega
-    (arith, at-share-fragment.before.before.digests_at-e.ensures.place, z) in
+    let e : at-share-fragment.digests_at-e.result ≡ digests_in_def (shelf a.t) a.reply.now = omega
+    (arith, at-share-fragment.digests_at-e.ensures.place, z) in
     let handed = at-share-fragment.share_fragment.ensures
-    ∙ (ap (λ (d : List ℕ). (share_at (shelf a.t) d).fragment) at-share-fragment.before.rest.ensures
+    ∙ (ap (λ (d : List ℕ). (share_at (shelf a.t) d).fragment) at-share-fragment.rest.ensures
     ∙ fragment-handed (shelf a.t) a.reply.now) in
-    let at : ℕ = at-share-fragment.before.before.digests_at-e.result + digest_size * a.j in
+    let at : ℕ = at-share-fragment.digests_at-e.result + digest_size * a.j in
     c.same.ensures
     ∙ ap (λ (x : List ℕ). same_list x (take (at + digest_size - at) (drop at a.reply.now)))
-    (c.before.before.before.digest-d.ensures ∙ ap sha256 handed)
+    (c.digest-d.ensures ∙ ap sha256 handed)
     ∙ ap (same_list (sha256 (bytes_at a.reply.now (stamp_size + 3) F)))
     (part_of a.reply.now at digest_size ∙ ap (λ (k : ℕ). bytes_at a.reply.now (k + digest_size * a.j) digest_size) e)
     ∙ sym (intact_in (shelf a.t) a.reply.now p.3 a.j p.4)

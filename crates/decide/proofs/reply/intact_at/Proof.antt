@@ -9,8 +9,8 @@ use Rattle.decide.proofs.reply.intact_at.Tie as tie
 
 intact-requires : tie.Need-intact-requires
 intact-requires c κs =
-    let a = c.before.before.args in
-    let p = c.before.before.requires in (
+    let a = c.args in
+    let p = c.requires in (
       p.0.low,
       p.0.high,
       lent_length a.kept.now a.j p.0.size (omega (arith, p.1, few p.0)),
@@ -23,9 +23,9 @@ unfolding slot_held
 returns c = c.intact.ensures ∙ rw slot_lent
 
 pub intact_at_spec : {M : Type 1} → statement M
-intact_at_spec = tie.close (tie.spec (λ c. omega (arith, c.before.requires.0.size, c.before.requires.1, few c.before.requires.0))
-    (λ c. omega (arith, c.before.requires.0.size, c.before.requires.1, few c.before.requires.0))
-    (λ c. omega (arith, c.before.requires.0.size, c.before.requires.1, few c.before.requires.0))
-    (λ c. omega (arith, c.before.requires.0.size, c.before.requires.1, few c.before.requires.0))
-    (λ c. omega (arith, c.before.requires.0.size, c.before.requires.1, few c.before.requires.0))
-    (λ c. omega (arith, c.before.requires.0.size, c.before.requires.1, few c.before.requires.0)) intact-requires returns)
+intact_at_spec = tie.close (tie.spec (λ c. omega (arith, c.requires.0.size, c.requires.1, few c.requires.0))
+    (λ c. omega (arith, c.requires.0.size, c.requires.1, few c.requires.0))
+    (λ c. omega (arith, c.requires.0.size, c.requires.1, few c.requires.0))
+    (λ c. omega (arith, c.requires.0.size, c.requires.1, few c.requires.0))
+    (λ c. omega (arith, c.requires.0.size, c.requires.1, few c.requires.0))
+    (λ c. omega (arith, c.requires.0.size, c.requires.1, few c.requires.0)) intact-requires returns)

@@ -22,7 +22,7 @@ use Rattle.decide.proofs.reply.names.Tie as tie
 
 returns : tie.Need-returns-then-reply-eq0
 returns c =
-    let a = c.before.before.before.before.before.args in
+    let a = c.args in
     sym (names_none (shelf a.t) a.reply.now (candidate_at (shelf a.t) a.candidate.now) a.d.now
     (eq-eqb (get_or a.reply.now stamp_size 0) 0 c.if-reply-eq0.true))
 
@@ -32,41 +32,41 @@ shared-slice-known2-from-size-of c = c.before.before.before.before
 
 returns-2 : tie.Need-returns-then-n-gt-TOP_LENGTH
 returns-2 c =
-    let a = (shared-slice-known2-from-size-of c.before).before.before.args in
+    let a = (shared-slice-known2-from-size-of c.before).args in
     sym (names-long (shelf a.t) a.reply.now a.candidate.now a.d.now (ne_eqb (get_or a.reply.now stamp_size 0) 0
-    c.before.before.if-reply-eq0.false) (omega (arith, c.before.type_size.ensures)))
+    c.if-reply-eq0.false) (omega (arith, c.before.type_size.ensures)))
 
 returns-3 : tie.Need-returns-then-not-same
 returns-3 c =
     let at-size-of = c.before.before.before.before.before in
     let at-shared-slice-known2 = shared-slice-known2-from-size-of at-size-of in
-    let a = at-shared-slice-known2.before.before.args in
-    let p = at-shared-slice-known2.before.before.requires in
+    let a = at-shared-slice-known2.args in
+    let p = at-shared-slice-known2.requires in
     sym (names-other (shelf a.t) a.reply.now a.candidate.now a.d.now
-    (ne_eqb (get_or a.reply.now stamp_size 0) 0 at-size-of.before.if-reply-eq0.false) (sym (same_heads a.reply.now a.candidate.now
-    (λ k. (at-shared-slice-known2.before.shared_slice_known-1.given k).fits)
+    (ne_eqb (get_or a.reply.now stamp_size 0) 0 at-size-of.if-reply-eq0.false) (sym (same_heads a.reply.now a.candidate.now
+    (λ k. (at-shared-slice-known2.shared_slice_known-1.given k).fits)
     (λ k. (at-shared-slice-known2.shared_slice_known-2-1.given k).fits) (omega (arith, p.2)) (omega (arith, p.3)))
-    ∙ sym c.before.same.ensures ∙ not-true c.before.same.result c.if-not-same.true))
+    ∙ sym c.same.ensures ∙ not-true c.same.result c.if-not-same.true))
 
 abbrev size-of-from-else3 : tie.Else-not-same → tie.After-size_of-n
 size-of-from-else3 c = c.before.before.before.before.before
 
 digests-at-requires : tie.Need-digests_at-requires
-digests-at-requires c κs = let p = (shared-slice-known2-from-size-of (size-of-from-else3 c)).before.before.requires in (
+digests-at-requires c κs = let p = (shared-slice-known2-from-size-of (size-of-from-else3 c)).requires in (
   p.0,
   p.1,
   omega arith,
 )
 
 servers-requires : tie.Need-servers-requires
-servers-requires c κs = (shared-slice-known2-from-size-of (size-of-from-else3 c.before)).before.before.requires.1
+servers-requires c κs = (shared-slice-known2-from-size-of (size-of-from-else3 c.before)).requires.1
 
 part-same-end-3 : tie.Need-slice_bounds-same-end-3
-part-same-end-3 c = let r = c.before.digests_at.ensures.room in omega (
+part-same-end-3 c = let r = c.digests_at.ensures.room in omega (
   arith,
   r,
   c.servers.ensures.0,
-  (shared-slice-known2-from-size-of (size-of-from-else3 c.before.before)).before.before.requires.2,
+  (shared-slice-known2-from-size-of (size-of-from-else3 c.before.before)).requires.2,
 )
 
 returns-4 : tie.Need-returns
@@ -74,23 +74,23 @@ returns-4 c =
     let at-else3 = c.before.before.before.before in
     let at-size-of = size-of-from-else3 at-else3 in
     let at-shared-slice-known2 = shared-slice-known2-from-size-of at-size-of in
-    let a = at-shared-slice-known2.before.before.args in
-    let p = at-shared-slice-known2.before.before.requires in
+    let a = at-shared-slice-known2.args in
+    let p = at-shared-slice-known2.requires in
     let f : Full a.reply.now =
     record {
-      flag = ne_eqb (get_or a.reply.now stamp_size 0) 0 at-size-of.before.if-reply-eq0.left;
+      flag = ne_eqb (get_or a.reply.now stamp_size 0) 0 at-size-of.if-reply-eq0.left;
       top = omega (arith, at-size-of.type_size.ensures);
     } in
     let q : same_stamp (stamp_at_def a.reply.now) (stamp_at_def a.candidate.now) ≡ true =
-    sym (same_heads a.reply.now a.candidate.now (λ k. (at-shared-slice-known2.before.shared_slice_known-1.given k).fits)
+    sym (same_heads a.reply.now a.candidate.now (λ k. (at-shared-slice-known2.shared_slice_known-1.given k).fits)
     (λ k. (at-shared-slice-known2.shared_slice_known-2-1.given k).fits) (omega (arith, p.2)) (omega (arith, p.3)))
-    ∙ sym at-else3.before.same.ensures ∙ not-false at-else3.before.same.result at-else3.if-not-same.false in
-    let at : ℕ = c.before.before.before.digests_at.result + digest_size * c.before.before.servers.result in
+    ∙ sym at-else3.same.ensures ∙ not-false at-else3.same.result at-else3.if-not-same.false in
+    let at : ℕ = c.digests_at.result + digest_size * c.servers.result in
     let e : at ≡ digests_in_def (shelf a.t) a.reply.now + digests_size_def (shelf a.t) =
     omega (
       arith,
-      c.before.before.before.digests_at.ensures.place,
-      c.before.before.servers.ensures.0,
+      c.digests_at.ensures.place,
+      c.servers.ensures.0,
       ap (fragment_size_def (shelf a.t).threshold) at-size-of.type_size.ensures,
     ) in
     c.same-2.ensures ∙ ap (λ (z : List ℕ). same_list z a.d.now) (part_of a.reply.now at digest_size ∙ ap
@@ -100,8 +100,8 @@ returns-4 c =
 pub names_spec : {M : Type 1} → statement M
 names_spec = tie.close (tie.spec (λ c. search rules) returns (λ c κs. search rules) returns-2 (λ c. search rules) (λ c. search rules)
     (λ c. search rules) (λ c. search rules) (λ c. search rules) (λ c. search rules) (λ c κs. search rules) returns-3 digests-at-requires
-    servers-requires (λ c. omega (arith, c.before.digests_at.ensures.room, c.servers.ensures.0))
-    (λ c. omega (arith, c.before.digests_at.ensures.room, c.servers.ensures.0))
-    (λ c. omega (arith, c.before.digests_at.ensures.room, c.servers.ensures.0))
-    (λ c. omega (arith, c.before.digests_at.ensures.room, c.servers.ensures.0))
-    (λ c. omega (arith, c.before.digests_at.ensures.room, c.servers.ensures.0)) part-same-end-3 (λ c κs. search rules) returns-4)
+    servers-requires (λ c. omega (arith, c.digests_at.ensures.room, c.servers.ensures.0))
+    (λ c. omega (arith, c.digests_at.ensures.room, c.servers.ensures.0))
+    (λ c. omega (arith, c.digests_at.ensures.room, c.servers.ensures.0))
+    (λ c. omega (arith, c.digests_at.ensures.room, c.servers.ensures.0))
+    (λ c. omega (arith, c.digests_at.ensures.room, c.servers.ensures.0)) part-same-end-3 (λ c κs. search rules) returns-4)

@@ -32,10 +32,10 @@ returns c =
     c.names.ensures ∙ rw (slot_lent, part_of, candidate_in_lem (shelf a.t) a.kept.now a.i p.1)
 
 pub names_at_spec : {M : Type 1} → statement M
-names_at_spec = tie.close (tie.spec (λ c. omega (arith, c.before.before.requires.0.size)) (λ c. omega (arith, c.before.before.requires.0.size))
-    (λ c. omega (arith, c.before.before.requires.0.size)) (λ c. omega (arith, c.before.before.requires.0.size))
-    (λ c. omega (arith, c.before.before.requires.0.size)) (λ c. omega (arith, c.before.before.requires.0.size))
-    (λ c. omega (arith, c.before.before.requires.0.size)) (λ c. omega (arith, c.before.before.requires.0.size))
-    (λ c. omega (arith, c.before.before.before.requires.0.size)) (λ c. omega (arith, c.before.before.before.requires.0.size))
-    (λ c. omega (arith, c.before.before.before.requires.0.size)) (λ c. omega (arith, c.before.before.before.requires.0.size)) names-requires
+names_at_spec = tie.close (tie.spec (λ c. omega (arith, c.requires.0.size)) (λ c. omega (arith, c.requires.0.size))
+    (λ c. omega (arith, c.requires.0.size)) (λ c. omega (arith, c.requires.0.size))
+    (λ c. omega (arith, c.requires.0.size)) (λ c. omega (arith, c.requires.0.size))
+    (λ c. omega (arith, c.requires.0.size)) (λ c. omega (arith, c.requires.0.size))
+    (λ c. omega (arith, c.requires.0.size)) (λ c. omega (arith, c.requires.0.size))
+    (λ c. omega (arith, c.requires.0.size)) (λ c. omega (arith, c.requires.0.size)) names-requires
     returns)

@@ -5,7 +5,7 @@ use Rattle.decide.proofs.sizes.copy.Statement.{statement}
 use Rattle.decide.proofs.sizes.copy.Tie as tie
 
 returns : tie.Need-returns
-returns c = (placed-wrote c.before.before.put.ensures c.before.before.before.before.before.before.requires).bytes
+returns c = (placed-wrote c.put.ensures c.requires).bytes
 
 pub copy_spec : {M : Type 1} → statement M
 copy_spec = tie.close (tie.spec (λ c κs. search rules) (λ c. search rules) returns)

@@ -8,17 +8,17 @@ use Rattle.decide.proofs.sizes.digests_at.Tie as tie
 
 add-result : tie.Need-overflow_add-result
 unfolding share_size_def
-add-result c = let p = c.before.requires in omega (
+add-result c = let p = c.requires in omega (
   arith,
-  (shelf-fits c.before.args.t p.0 p.1).room c.before.args.n p.2,
+  (shelf-fits c.args.t p.0 p.1).room c.args.n p.2,
   c.fragment_size.ensures,
 )
 
 returns : tie.Need-returns
 unfolding share_size_def
 returns c =
-    let p = c.before.requires in
-    let f = (shelf-fits c.before.args.t p.0 p.1).room c.before.args.n p.2 in
+    let p = c.requires in
+    let f = (shelf-fits c.args.t p.0 p.1).room c.args.n p.2 in
     record { place = omega (arith, c.fragment_size.ensures); room = omega (arith, c.fragment_size.ensures, f) }
 
 pub digests_at_spec : {M : Type 1} → statement M

@@ -11,7 +11,7 @@ use Rattle.decide.proofs.sizes.rank_at.Tie as tie
 
 returns : tie.Need-returns
 unfolding rank_at
-returns c = c.rank_at.ensures ∙ ap (λ (x : List ℕ). rank (stamp_at_def x)) c.before.rest.ensures
+returns c = c.rank_at.ensures ∙ ap (λ (x : List ℕ). rank (stamp_at_def x)) c.rest.ensures
 
 pub rank_at_spec : {M : Type 1} → statement M
 rank_at_spec = tie.close (tie.spec (λ c κs. search rules) (λ c κs. search rules) returns)

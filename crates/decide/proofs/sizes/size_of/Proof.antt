@@ -9,8 +9,8 @@ use Rattle.decide.proofs.sizes.size_of.Tie as tie
 
 returns : tie.Need-returns
 returns c =
-    let reply = c.before.before.before.args.reply.now in
-    rw (get_or-drop (stamp_size + 1) reply 0 0, get_or-drop (stamp_size + 1) reply 1 0) at (rw c.before.rest.ensures at c.number2.ensures)
+    let reply = c.args.reply.now in
+    rw (get_or-drop (stamp_size + 1) reply 0 0, get_or-drop (stamp_size + 1) reply 1 0) at (rw c.rest.ensures at c.number2.ensures)
 
 pub size_of_spec : {M : Type 1} → statement M
 size_of_spec = tie.close (tie.spec (λ c κs. search rules) (λ c κs. search rules) (λ c. search rules) returns)

@@ -9,8 +9,8 @@ use Rattle.decide.proofs.sizes.tags_place.Tie as tie
 returns : tie.Need-returns
 unfolding share_size_def
 returns c =
-    let p = c.before.requires in
-    let f = (shelf-fits c.before.args.t p.0 p.1).room c.before.args.n p.2 in
+    let p = c.requires in
+    let f = (shelf-fits c.args.t p.0 p.1).room c.args.n p.2 in
     record { place = c.tags_at.ensures; room = omega (arith, c.tags_at.ensures, f) }
 
 pub tags_place_spec : {M : Type 1} → statement M

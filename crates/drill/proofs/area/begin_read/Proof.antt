@@ -13,15 +13,15 @@ returns : tie.Need-returns
 returns c =
     let at-work = c.before.before.before.before.before.before in
     let at-call-of = at-work.before.before.before.before in
-    let a = at-call-of.before.before.before.args in
+    let a = at-call-of.args in
     let w = a.work.now in
-    begins_as w a.client at-call-of.before.before.before.requires.0 at-call-of.before.before.before.requires.1
+    begins_as w a.client at-call-of.requires.0 at-call-of.requires.1
     (λ x y. core_read a.t a.client x y) (begin_read_def a.t a.client (call_in w a.client) (kept_in w a.client))
-    (at-work.before.before.before.kept_at-a.result + 24576 - at-work.before.before.before.kept_at-a.result)
-    (core_read_lem w a.client at-call-of.before.before.before.requires.0 at-call-of.before.before.before.requires.1 a.t)
-    at-call-of.call_of-call.ensures at-work.before.before.before.kept_at-a.ensures.0 (omega arith) at-work.before.begin_read_in-s.ensures.0
-    at-work.before.begin_read_in-s.ensures.1 at-work.work-1.given.0 c.before.before.before.put_call.ensures.0
-    c.before.before.before.put_call.ensures.1
+    (at-work.kept_at-a.result + 24576 - at-work.kept_at-a.result)
+    (core_read_lem w a.client at-call-of.requires.0 at-call-of.requires.1 a.t)
+    at-call-of.call_of-call.ensures at-work.kept_at-a.ensures.0 (omega arith) at-work.begin_read_in-s.ensures.0
+    at-work.begin_read_in-s.ensures.1 at-work.work-1.given.0 c.put_call.ensures.0
+    c.put_call.ensures.1
 
 pub begin_read_spec : {M : Type 1} → statement M
 begin_read_spec = tie.close (tie.spec (λ c κs. search rules) (λ c κs. search rules) (λ c. search rules) (λ c. search rules) (λ c. search rules)

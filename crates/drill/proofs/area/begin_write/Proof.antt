@@ -18,11 +18,11 @@ returns c =
     let w = a.work.now in
     begins_as w a.client at-start.requires.0 at-start.requires.1
     (λ x y. core_write a.t a.client x y a.content.now a.nonce.now) (begin_write_def a.t a.client (call_in w a.client)
-    (kept_in w a.client) a.content.now a.nonce.now) (at-work.before.before.before.kept_at-a.result + 24576 -
-    at-work.before.before.before.kept_at-a.result) (core_write_lem w a.client at-start.requires.0 at-start.requires.1 a.t
-    a.content.now a.nonce.now) at-call-of.call_of-call.ensures at-work.before.before.before.kept_at-a.ensures.0 (omega arith)
-    at-work.before.begin_write_in-s.ensures.0 at-work.before.begin_write_in-s.ensures.1
-    at-work.work-1.given.0 c.before.before.before.put_call.ensures.0 c.before.before.before.put_call.ensures.1
+    (kept_in w a.client) a.content.now a.nonce.now) (at-work.kept_at-a.result + 24576 -
+    at-work.kept_at-a.result) (core_write_lem w a.client at-start.requires.0 at-start.requires.1 a.t
+    a.content.now a.nonce.now) at-call-of.call_of-call.ensures at-work.kept_at-a.ensures.0 (omega arith)
+    at-work.begin_write_in-s.ensures.0 at-work.begin_write_in-s.ensures.1
+    at-work.work-1.given.0 c.put_call.ensures.0 c.put_call.ensures.1
 
 pub begin_write_spec : {M : Type 1} → statement M
 begin_write_spec = tie.close (tie.spec (λ c κs. search rules) (λ c κs. search rules) (λ c. search rules) (λ c. search rules) (λ c. search rules)

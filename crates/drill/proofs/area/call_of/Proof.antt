@@ -10,8 +10,8 @@ use Rattle.drill.proofs.area.call_of.Tie as tie
 
 returns : tie.Need-returns
 unfolding call_in
-returns c = c.read.ensures ∙ ap call_at (c.before.part.ensures ∙ ap (λ (a : ℕ). bytes_at c.before.before.before.before.args.work.now a 29)
-    c.before.before.client_at.ensures.0)
+returns c = c.read.ensures ∙ ap call_at (c.part.ensures ∙ ap (λ (a : ℕ). bytes_at c.args.work.now a 29)
+    c.client_at.ensures.0)
 
 pub call_of_spec : {M : Type 1} → statement M
 call_of_spec = tie.close (tie.spec (λ c κs. search rules) (λ c κs. search rules) (λ c κs. search rules) returns)

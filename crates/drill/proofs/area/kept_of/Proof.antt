@@ -9,7 +9,7 @@ use Rattle.drill.proofs.area.kept_of.Tie as tie
 
 returns : tie.Need-returns
 unfolding kept_in
-returns c = c.part.ensures ∙ ap (λ (a : ℕ). bytes_at c.before.before.before.args.work.now a 24576) c.before.kept_at.ensures.0
+returns c = c.part.ensures ∙ ap (λ (a : ℕ). bytes_at c.args.work.now a 24576) c.kept_at.ensures.0
 
 pub kept_of_spec : {M : Type 1} → statement M
 kept_of_spec = tie.close (tie.spec (λ c κs. search rules) (λ c κs. search rules) returns)

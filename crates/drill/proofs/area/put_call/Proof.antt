@@ -11,11 +11,11 @@ use Rattle.drill.proofs.area.put_call.Tie as tie
 returns : tie.Need-returns
 returns c =
     let at-client-at = c.before.before.before.before in
-    let m : length at-client-at.before.before.args.call.tally.marks ≡ 13 = search rules in (
-      put_as at-client-at.before.before.args.work.now at-client-at.before.before.args.client
-          at-client-at.before.before.requires.0 at-client-at.before.before.requires.1
-          at-client-at.before.before.args.call (at-client-at.client_at-a.result + 64 -
-          at-client-at.client_at-a.result) at-client-at.client_at-a.ensures.0 (omega arith) m c.before.before.put.ensures,
+    let m : length at-client-at.args.call.tally.marks ≡ 13 = search rules in (
+      put_as at-client-at.args.work.now at-client-at.args.client
+          at-client-at.requires.0 at-client-at.requires.1
+          at-client-at.args.call (at-client-at.client_at-a.result + 64 -
+          at-client-at.client_at-a.result) at-client-at.client_at-a.ensures.0 (omega arith) m c.put.ensures,
       m,
     )
 

@@ -12,13 +12,13 @@ returns-2 : tie.Need-returns-then-is_first
 returns-2 c =
     let at-l = c.before.before.before in
     let e = line-told at-l.before.before.line_at_lem.ensures at-l.l-1.given.1 in
-    rw (is_first_line _ _ e (sym c.before.is_first.ensures ∙ c.if-is_first.true))
+    rw (is_first_line _ _ e (sym c.is_first.ensures ∙ c.if-is_first.true))
 
 returns-3 : tie.Need-returns
 returns-3 c =
     let at-l = c.before.before.before in
     let e = line-told at-l.before.before.line_at_lem.ensures at-l.l-1.given.1 in
-    rw (no_first_line _ _ e (sym c.before.is_first.ensures ∙ c.if-is_first.false))
+    rw (no_first_line _ _ e (sym c.is_first.ensures ∙ c.if-is_first.false))
 
 pub first_line_spec : {M : Type 1} → statement M
 first_line_spec = tie.close (tie.spec (λ c κs. search rules) (λ c. search rules) (λ c. search rules) returns (λ c κs. search rules) returns-2

@@ -8,19 +8,19 @@ use Rattle.drill.proofs.lines.is_step.Tie as tie
 
 returns : tie.Need-returns-in-1
 unfolding is_step_def
-returns c = rw c.before.in-1.keys1 c.is_write.ensures
+returns c = rw c.in-1.keys1 c.is_write.ensures
 
 returns-2 : tie.Need-returns-in-2
 unfolding is_step_def
-returns-2 c = ⊎_elim (λ e. rw e c.is_alone.ensures) (λ e. rw e c.is_alone.ensures) c.before.in-2.keys2
+returns-2 c = ⊎_elim (λ e. rw e c.is_alone.ensures) (λ e. rw e c.is_alone.ensures) c.in-2.keys2
 
 returns-3 : tie.Need-returns-in-3
 unfolding is_step_def
-returns-3 c = rw c.before.in-3.keys3 c.no_content.ensures
+returns-3 c = rw c.in-3.keys3 c.no_content.ensures
 
 returns-4 : tie.Need-returns-in-4
 unfolding is_step_def
-returns-4 c = rw c.before.in-4.keys4 c.is_blanking.ensures
+returns-4 c = rw c.in-4.keys4 c.is_blanking.ensures
 
 returns-5 : tie.Need-returns-in_default
 unfolding is_step_def

@@ -8,28 +8,28 @@ use Rattle.drill.proofs.lines.step_line.Tie as tie
 
 returns : tie.Need-returns-then-n-ge-TOP_NUMBER
 returns c =
-    let a = c.before.before.args in
+    let a = c.args in
     rw (last-number (line_at a.sheet.now a.at) a.n c.if-n-ge-TOP_NUMBER.true)
 
 returns-2 : tie.Need-returns-in_default
 returns-2 c =
     let at-line-at = c.before.before in
     let e = line-told at-line-at.line_at_lem.ensures c.enum_told-1.given.1 in
-    rw (no_step_text _ at-line-at.before.before.before.args.n at-line-at.before.if-n-ge-TOP_NUMBER.false e)
+    rw (no_step_text _ at-line-at.args.n at-line-at.if-n-ge-TOP_NUMBER.false e)
 
 returns-3 : tie.Need-returns-then-is_step
 returns-3 c =
     let at-line-at = c.before.before.before.before.before in
-    let e = line-told at-line-at.line_at_lem.ensures c.before.before.before.l-1.given.1 in
-    let a = at-line-at.before.before.before.args in
-    rw (is_step_line _ a.n at-line-at.before.if-n-ge-TOP_NUMBER.false _ e (sym c.before.is_step.ensures ∙ c.if-is_step.true))
+    let e = line-told at-line-at.line_at_lem.ensures c.l-1.given.1 in
+    let a = at-line-at.args in
+    rw (is_step_line _ a.n at-line-at.if-n-ge-TOP_NUMBER.false _ e (sym c.is_step.ensures ∙ c.if-is_step.true))
 
 returns-4 : tie.Need-returns
 returns-4 c =
     let at-line-at = c.before.before.before.before.before in
-    let e = line-told at-line-at.line_at_lem.ensures c.before.before.before.l-1.given.1 in
-    let a = at-line-at.before.before.before.args in
-    rw (no_step_line _ a.n at-line-at.before.if-n-ge-TOP_NUMBER.false _ e (sym c.before.is_step.ensures ∙ c.if-is_step.false))
+    let e = line-told at-line-at.line_at_lem.ensures c.l-1.given.1 in
+    let a = at-line-at.args in
+    rw (no_step_line _ a.n at-line-at.if-n-ge-TOP_NUMBER.false _ e (sym c.is_step.ensures ∙ c.if-is_step.false))
 
 pub step_line_spec : {M : Type 1} → statement M
 step_line_spec = tie.close (tie.spec returns (λ c κs. search rules) (λ c. search rules) (λ c. search rules) returns-2 (λ c κs. search rules) returns-3

@@ -15,16 +15,16 @@ abbrev decreases-loop : tie.decreases-loop-b
 decreases-loop work₀ t n b₀ work b = n + 1 - b
 
 loop-holds : tie.Need-loop-b-init invariant-loop decreases-loop
-loop-holds c = ready_none c.before.before.args.t c.before.before.args.work.now c.before.before.requires.1.0
-    c.before.before.requires.1.1
+loop-holds c = ready_none c.args.t c.args.work.now c.requires.1.0
+    c.requires.1.1
 
 blank-requires : tie.Need-blank-requires invariant-loop decreases-loop
 blank-requires c κs =
     let at-loop = c.before.before in
-    let e = c.before.before.before.servers-n.ensures in (
-      few-servers at-loop.before.before.before.args.t c.before.before.loop-b.b
-          at-loop.before.before.before.requires.0.1 (c.before.before.loop-b.invariant.low, omega arith),
-      c.before.before.loop-b.invariant.size,
+    let e = c.servers-n.ensures in (
+      few-servers at-loop.args.t c.loop-b.b
+          at-loop.requires.0.1 (c.loop-b.invariant.low, omega arith),
+      c.loop-b.invariant.size,
     )
 
 -- Places far back, each named once: the place, and from where it is seen.
@@ -34,8 +34,8 @@ at-loop-from-slice-known2 c = c.before.before.before.before.before
 add-b : tie.Need-overflow_add-b invariant-loop decreases-loop
 add-b c =
     let at-loop = at-loop-from-slice-known2 c in
-    let e = at-loop.before.servers-n.ensures in let h = few-servers at-loop.before.before.before.args.t at-loop.loop-b.b
-    at-loop.before.before.before.requires.0.1 (
+    let e = at-loop.servers-n.ensures in let h = few-servers at-loop.args.t at-loop.loop-b.b
+    at-loop.requires.0.1 (
       at-loop.loop-b.invariant.low,
       omega
           arith,
@@ -44,17 +44,17 @@ add-b c =
 loop-again : tie.Need-loop-b-preserved invariant-loop decreases-loop
 loop-again c =
     let at-loop = at-loop-from-slice-known2 c in
-    let e = at-loop.before.servers-n.ensures in
-    ready_more at-loop.before.before.before.args.t at-loop.loop-b.b
-    at-loop.loop-b.work _ at-loop.before.before.before.requires.0
-    (omega arith) at-loop.loop-b.invariant c.before.before.blank.ensures
+    let e = at-loop.servers-n.ensures in
+    ready_more at-loop.args.t at-loop.loop-b.b
+    at-loop.loop-b.work _ at-loop.requires.0
+    (omega arith) at-loop.loop-b.invariant c.blank.ensures
 
 same_length : tie.Need-shape_of-work invariant-loop decreases-loop
-same_length c = c.before.loop-b.invariant.size ∙ sym c.before.before.before.before.requires.1.0
+same_length c = c.loop-b.invariant.size ∙ sym c.requires.1.0
 
 returns : tie.Need-returns invariant-loop decreases-loop
-returns c = let e = c.before.before.servers-n.ensures in ready_all c.before.before.before.before.args.t c.before.loop-b.b
-    c.before.loop-b.work (omega arith) c.before.loop-b.invariant
+returns c = let e = c.servers-n.ensures in ready_all c.args.t c.loop-b.b
+    c.loop-b.work (omega arith) c.loop-b.invariant
 
 pub blank_servers_spec : {M : Type 1} → statement M
 blank_servers_spec = tie.close (tie.spec invariant-loop decreases-loop (λ c. search rules) (λ c κs. search rules) loop-holds blank-requires add-b

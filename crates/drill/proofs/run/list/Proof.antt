@@ -49,7 +49,7 @@ module _ (c : tie.In-Line-2) where
   line = c.l-1.given.0.0
 
   first-is : first_line_def (line_at (sheet (else1-from-l c)) 0) ≡ some line
-  first-is = line-told c.before.before.first_line.ensures c.l-1.given.1
+  first-is = line-told c.first_line.ensures c.l-1.given.1
 
 abbrev l-from-then2 : tie.Then-outside → tie.In-Line-2
 l-from-then2 c = c.before.before.before.before
@@ -58,7 +58,7 @@ abbrev l-from-else2 : tie.Else-outside → tie.In-Line-2
 l-from-else2 c = c.before.before.before.before
 
 right-t : (c : tie.Else-outside) → (1 ≤ (line (l-from-else2 c)).client) × ((line (l-from-else2 c)).client ≤ top_faults)
-right-t c = is_in 1 top_faults _ c.before.outside.ensures c.if-outside.false
+right-t c = is_in 1 top_faults _ c.outside.ensures c.if-outside.false
 
 -- ---- the needs
 
@@ -75,7 +75,7 @@ returns-2 c =
     let at-enum-told = c.before.before.before.before in
     let at-else1 = else1-from-enum-told at-enum-told in
     lists-117 (sheet at-else1) (given at-else1) (stands at-else1)
-    (line-told at-enum-told.before.before.first_line.ensures at-enum-told.enum_told-1.given.1) c.before.before.put_last.ensures
+    (line-told at-enum-told.first_line.ensures at-enum-told.enum_told-1.given.1) c.put_last.ensures
 
 put-last-requires-2 : tie.Need-put_last-requires-then-outside
 put-last-requires-2 c κs = room (else1-from-l (l-from-then2 c.before))
@@ -86,7 +86,7 @@ returns-3 c =
     let at-l = l-from-then2 at-then2 in
     let at-else1 = else1-from-l at-l in
     lists-103 (sheet at-else1) (given at-else1) (stands at-else1) (line at-l) (first-is at-l)
-    (not-true _ (sym at-then2.before.outside.ensures ∙ at-then2.if-outside.true)) c.before.before.put_last-then-outside.ensures
+    (not-true _ (sym at-then2.outside.ensures ∙ at-then2.if-outside.true)) c.put_last-then-outside.ensures
 
 blank-servers-requires : tie.Need-blank_servers-requires
 blank-servers-requires c κs = (right-t c.before, (start-from-else1 (else1-from-l (l-from-else2 c.before))).requires.0)
@@ -108,7 +108,7 @@ returns-4 c =
     let at-l = l-from-else2 at-else2 in
     let at-else1 = else1-from-l at-l in
     lists-rows (sheet at-else1) (given at-else1) (stands at-else1) (line at-l) (first-is at-l)
-    (right-t at-else2) (rw at-rows-from.before.next_line.ensures at at-rows-from.rows_from.ensures)
+    (right-t at-else2) (rw at-rows-from.next_line.ensures at at-rows-from.rows_from.ensures)
 
 pub list_spec : {M : Type 1} → statement M
 list_spec = tie.close (tie.spec returns (λ c κs. search rules) (λ c. search rules) (λ c. search rules) put-last-requires

@@ -8,9 +8,9 @@ returns : tie.Need-returns
 returns c =
     let at-round-of = c.before.before.before.before in
     let at_step = at-round-of.before.before.before.before.before in
-    let a = at_step.before.before.before.before.args in
+    let a = at_step.args in
     row_in a.t a.begun a.n a.l a.work.now _ a.out.now a.at at_step.step-s.ensures at-round-of.round_of-round.ensures
-    c.before.before.put_step.ensures
+    c.put_step.ensures
 
 pub one_line_spec : {M : Type 1} → statement M
 one_line_spec = tie.close (tie.spec (λ c κs. search rules) (λ c. search rules) (λ c κs. search rules) (λ c κs. search rules) (λ c. search rules)

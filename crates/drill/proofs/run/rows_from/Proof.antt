@@ -88,7 +88,7 @@ module _ (c : tie.In-loop-at invariant-loop decreases-loop) where
       row_room (t p) (sheet p) (given p) (start p) (out p) (work p) (place p) (n p) (begun p) (done p) (going p) stands
 
 step_is : (c : tie.In-Line-2 invariant-loop decreases-loop) → step_line_def (n (line-from-l c).before) (line (line-from-l c)) ≡ some c.l-1.given.0.0
-step_is c = line-told c.before.before.step_line.ensures c.l-1.given.1
+step_is c = line-told c.step_line.ensures c.l-1.given.1
 
 -- ---- the needs
 
@@ -108,7 +108,7 @@ add-result : tie.Need-overflow_add-result invariant-loop decreases-loop
 add-result c = let h = room (line-from-enum-told (enum-told-from-slice-known3 c)) in omega arith
 
 same_length : tie.Need-shape_of-out-in_default invariant-loop decreases-loop
-same_length c = c.before.out-1.given ∙ size_is (line-from-enum-told (enum-told-from-slice-known3 c)).before
+same_length c = c.out-1.given ∙ size_is (line-from-enum-told (enum-told-from-slice-known3 c)).before
 
 same-length-2 : tie.Need-shape_of-work-in_default invariant-loop decreases-loop
 same-length-2 c = work-is (line-from-enum-told (enum-told-from-slice-known3 c)).before
@@ -119,8 +119,8 @@ returns c =
     let at-line = line-from-enum-told at-enum-told in
     let p = at-line.before in
     going_last (t p) (sheet p) (given p) (start p) (out p) (work p) (place p) (n p) (begun p) (done p) (going p) (stands at-line)
-    (line-told at-enum-told.before.before.step_line.ensures at-enum-told.enum_told-1.given.1)
-    c.before.before.put_last.ensures
+    (line-told at-enum-told.step_line.ensures at-enum-told.enum_told-1.given.1)
+    c.put_last.ensures
 
 one-line-requires : tie.Need-one_line-begun-requires invariant-loop decreases-loop
 one-line-requires c κs =

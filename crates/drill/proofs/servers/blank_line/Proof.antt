@@ -11,8 +11,8 @@ use borrow.Author.Rules.{rules}
 use Rattle.drill.proofs.servers.blank_line.Statement.{statement}
 use Rattle.drill.proofs.servers.blank_line.Tie as tie
 
-tested : (c : tie.After-outside) → let a = c.before.before.before.args in c.outside.result ≡ not (within 1 (shelf a.t).servers a.server)
-tested c = c.outside.ensures ∙ ap (λ (n : ℕ). not (within 1 n c.before.before.before.args.server)) c.before.servers.ensures
+tested : (c : tie.After-outside) → let a = c.args in c.outside.result ≡ not (within 1 (shelf a.t).servers a.server)
+tested c = c.outside.ensures ∙ ap (λ (n : ℕ). not (within 1 n c.args.server)) c.servers.ensures
 
 -- Places far back, each named once: the place, and from where it is seen.
 abbrev start-from-else1 : tie.Else-outside → tie.Start
@@ -23,9 +23,9 @@ server-in c = let a = (start-from-else1 c).args in is_in 1 (shelf a.t).servers a
 
 returns : tie.Need-returns-then-outside
 returns c =
-    let a = c.before.before.before.before.before.args in
+    let a = c.args in
     blank-refused a.t a.work.now a.server (is-out 1 (shelf a.t).servers a.server (tested c.before.before)
-    c.before.if-outside.true) c.refused.ensures
+    c.if-outside.true) c.refused.ensures
 
 blank-latest-requires : tie.Need-blank_latest-requires
 blank-latest-requires c κs =
@@ -42,7 +42,7 @@ returns-2 c =
     let at-start = start-from-else1 at-else1 in
     let a = at-start.args in
     blank_moves a.t a.work.now a.server at-start.requires.0.1
-    (server-in at-else1) c.before.before.before.blank_latest.ensures c.begun.ensures
+    (server-in at-else1) c.blank_latest.ensures c.begun.ensures
 
 pub blank_line_spec : {M : Type 1} → statement M
 blank_line_spec = tie.close (tie.spec (λ c. search rules) (λ c κs. search rules) (λ c κs. search rules) (λ c κs. search rules) returns

@@ -17,7 +17,7 @@ returns c =
     let a = at-start.args in
     serves_as a.work.now a.server at-start.requires.0 at-start.requires.1 (at-server-at.server_at-a.result + 40960 -
     at-server-at.server_at-a.result) at-server-at.server_at-a.ensures.0 (omega arith)
-    (λ z. server_take real z (replicate 32 a.server) a.packet.now a.out.now) c.before.before.before.work-1.given.0
+    (λ z. server_take real z (replicate 32 a.server) a.packet.now a.out.now) c.work-1.given.0
     at_take.take.ensures
 
 pub serve_spec : {M : Type 1} → statement M

@@ -12,14 +12,14 @@ use Rattle.drill.proofs.sheet.line_at.Tie as tie
 returns : tie.Need-returns-then-not-read_line
 returns c =
     let at-read-line = c.before.before in
-    let a = at-read-line.before.before.before.args in
+    let a = at-read-line.args in
     rw (not_read (line_at a.sheet.now a.at) (replicate 5 0) refl at-read-line.read_line.ensures (not-true _ c.if-not-read_line.true))
 
 returns-2 : tie.Need-returns
 unfolding fields_of
 returns-2 c =
     let at-read-line = c.before.before in
-    let a = at-read-line.before.before.before.args in
+    let a = at-read-line.args in
     rw (line_read (line_at a.sheet.now a.at) (replicate 5 0) refl at-read-line.read_line.ensures (not-false _ c.if-not-read_line.false))
 
 pub line_at_spec : {M : Type 1} → statement M

@@ -10,11 +10,11 @@ use Rattle.drill.proofs.shown.begun.Tie as tie
 
 returns : tie.Need-returns-then-number-eq0
 returns c =
-    c.plain.ensures ∙ ap (λ (z : Answer). shown_as z []) c.before.answer.ensures.0
-    ∙ sym (shown-begun c.before.before.before.args.number c.before.before.if-number-eq0.true)
+    c.plain.ensures ∙ ap (λ (z : Answer). shown_as z []) c.answer.ensures.0
+    ∙ sym (shown-begun c.args.number c.if-number-eq0.true)
 
 returns-2 : tie.Need-returns
-returns-2 c = c.refused.ensures ∙ sym (shown-refused c.before.before.args.number c.before.if-number-eq0.false)
+returns-2 c = c.refused.ensures ∙ sym (shown-refused c.args.number c.if-number-eq0.false)
 
 pub begun_spec : {M : Type 1} → statement M
 begun_spec = tie.close (tie.spec (λ c κs. search rules) (λ c κs. search rules) returns (λ c κs. search rules) returns-2)

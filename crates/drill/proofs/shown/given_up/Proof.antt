@@ -10,7 +10,7 @@ use Rattle.drill.proofs.shown.given_up.Tie as tie
 
 returns : tie.Need-returns
 returns c =
-    c.plain.ensures ∙ ap (λ (z : Answer). shown_as z []) c.before.answer.ensures.0 ∙ sym (shown-aborted c.before.before.args.a)
+    c.plain.ensures ∙ ap (λ (z : Answer). shown_as z []) c.answer.ensures.0 ∙ sym (shown-aborted c.args.a)
 
 pub given_up_spec : {M : Type 1} → statement M
 given_up_spec = tie.close (tie.spec (λ c κs. search rules) (λ c κs. search rules) returns)

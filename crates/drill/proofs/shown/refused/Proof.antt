@@ -9,7 +9,7 @@ use Rattle.drill.proofs.shown.refused.Tie as tie
 
 returns : tie.Need-returns
 unfolding shown
-returns c = c.plain.ensures ∙ ap (λ (z : Answer). shown_as z []) c.before.answer.ensures.0
+returns c = c.plain.ensures ∙ ap (λ (z : Answer). shown_as z []) c.answer.ensures.0
 
 pub refused_spec : {M : Type 1} → statement M
 refused_spec = tie.close (tie.spec (λ c κs. search rules) (λ c κs. search rules) returns)

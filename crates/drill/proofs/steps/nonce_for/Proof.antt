@@ -17,7 +17,7 @@ unfolding put nonce_for_def
 number-last k = refl
 
 returns : tie.Need-returns
-returns c = (placed-wrote c.before.put_number4.ensures (omega arith)).bytes ∙ number-last _
+returns c = (placed-wrote c.put_number4.ensures (omega arith)).bytes ∙ number-last _
 
 pub nonce_for_spec : {M : Type 1} → statement M
 nonce_for_spec = tie.close (tie.spec (λ c. search rules) (λ c κs. search rules) returns)

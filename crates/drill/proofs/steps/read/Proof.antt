@@ -6,24 +6,24 @@ use Rattle.cluster.specs.Ranges.{top_client}
 use Rattle.drill.proofs.steps.read.Statement.{statement}
 use Rattle.drill.proofs.steps.read.Tie as tie
 
-client-in : (c : tie.Else-outside) → (1 ≤ c.before.before.before.args.client) × (c.before.before.before.args.client ≤ top_client)
-client-in c = is_in 1 top_client _ c.before.outside.ensures c.if-outside.false
+client-in : (c : tie.Else-outside) → (1 ≤ c.args.client) × (c.args.client ≤ top_client)
+client-in c = is_in 1 top_client _ c.outside.ensures c.if-outside.false
 
 returns : tie.Need-returns-then-outside
 returns c =
     let at-start = c.before.before.before.before in
     let a = at-start.args in read_stays a.t a.client at-start.requires.0
-    a.work.now (is-out 1 top_client a.client c.before.before.outside.ensures c.before.if-outside.true) c.refused.ensures
+    a.work.now (is-out 1 top_client a.client c.outside.ensures c.if-outside.true) c.refused.ensures
 
 begin-read-requires : tie.Need-begin_read-requires
-begin-read-requires c κs = (client-in c.before, c.before.before.before.before.requires.1)
+begin-read-requires c κs = (client-in c.before, c.requires.1)
 
 returns-2 : tie.Need-returns
 returns-2 c =
     let at-else1 = c.before.before.before.before.before in
     let at-start = at-else1.before.before.before in
     let a = at-start.args in read_moves a.t a.client at-start.requires.0 a.work.now (client-in at-else1)
-    c.before.before.before.begin_read.ensures c.begun.ensures
+    c.begin_read.ensures c.begun.ensures
 
 pub read_spec : {M : Type 1} → statement M
 read_spec = tie.close (tie.spec (λ c κs. search rules) (λ c κs. search rules) returns begin-read-requires (λ c κs. search rules) (λ c. search rules)

@@ -13,10 +13,10 @@ use Rattle.cluster.specs.Ranges.{top_writer, top_client, top_length}
 use Rattle.drill.proofs.steps.write.Statement.{statement}
 use Rattle.drill.proofs.steps.write.Tie as tie
 
-writer_in : (c : tie.Else-outside) → (1 ≤ c.before.before.before.args.client) × (c.before.before.before.args.client ≤ top_writer)
-writer_in c = is_in 1 top_writer _ c.before.outside.ensures c.if-outside.false
+writer_in : (c : tie.Else-outside) → (1 ≤ c.args.client) × (c.args.client ≤ top_writer)
+writer_in c = is_in 1 top_writer _ c.outside.ensures c.if-outside.false
 
-client-in : (c : tie.Else-outside) → (1 ≤ c.before.before.before.args.client) × (c.before.before.before.args.client ≤ top_client)
+client-in : (c : tie.Else-outside) → (1 ≤ c.args.client) × (c.args.client ≤ top_client)
 client-in c = let h = writer_in c in (h.0, omega arith)
 
 returns : tie.Need-returns-then-outside
@@ -25,7 +25,7 @@ returns c =
     let a = at-start.args in
     write-stays a.t a.begun a.client a.size a.fill at-start.requires.0.0.1 a.work.now 4
     (λ y z. no-writer a.t a.client at-start.requires.0.0 y z _ _
-    (is-out 1 top_writer a.client c.before.before.outside.ensures c.before.if-outside.true)) c.refused.ensures
+    (is-out 1 top_writer a.client c.outside.ensures c.if-outside.true)) c.refused.ensures
 
 returns-2 : tie.Need-returns-then-size-gt-TOP_LENGTH
 returns-2 c =
@@ -34,7 +34,7 @@ returns-2 c =
     write-stays a.t a.begun a.client a.size a.fill at-start.requires.0.0.1 a.work.now 5
     (λ y z. no_size a.t a.client at-start.requires.0.0 y z _ _
     (inside 1 top_writer a.client (writer_in c.before.before)) (rw length-replicate
-    (lt-ltb top_length a.size c.before.if-size-gt-TOP_LENGTH.true))) c.refused-then-size-gt-TOP_LENGTH.ensures
+    (lt-ltb top_length a.size c.if-size-gt-TOP_LENGTH.true))) c.refused-then-size-gt-TOP_LENGTH.ensures
 
 -- Places far back, each named once: the place, and from where it is seen.
 abbrev start-from-nonce-for : tie.After-nonce_for-nonce → tie.Start
@@ -57,9 +57,9 @@ returns-3 c =
     let at-start = start-from-nonce-for at-nonce-for in
     let a = at-start.args in
     write_moves a.t a.begun a.client a.size a.fill at-start.requires.0.0.1 a.work.now (client-in at-nonce-for.before.before)
-    (at-begin-write.before.before.before.part-bytes.ensures ∙ part_copies a.size top_length a.fill (omega arith))
+    (at-begin-write.part-bytes.ensures ∙ part_copies a.size top_length a.fill (omega arith))
     (at-nonce-for.nonce_for-nonce.ensures ∙ rw add-one) at-begin-write.begin_write-n.ensures c.begun.ensures (a.begun + 1)
-    (counts-begun a.begun at-begin-write.begin_write-n.result c.before.if-n-eq0.true)
+    (counts-begun a.begun at-begin-write.begin_write-n.result c.if-n-eq0.true)
 
 returns-4 : tie.Need-returns
 returns-4 c =
@@ -68,9 +68,9 @@ returns-4 c =
     let at-start = start-from-nonce-for at-nonce-for in
     let a = at-start.args in
     write_moves a.t a.begun a.client a.size a.fill at-start.requires.0.0.1 a.work.now (client-in at-nonce-for.before.before)
-    (at-begin-write.before.before.before.part-bytes.ensures ∙ part_copies a.size top_length a.fill (omega arith))
+    (at-begin-write.part-bytes.ensures ∙ part_copies a.size top_length a.fill (omega arith))
     (at-nonce-for.nonce_for-nonce.ensures ∙ rw add-one) at-begin-write.begin_write-n.ensures c.begun-2.ensures a.begun
-    (counts-refused a.begun at-begin-write.begin_write-n.result c.before.if-n-eq0.false)
+    (counts-refused a.begun at-begin-write.begin_write-n.result c.if-n-eq0.false)
 
 pub write_spec : {M : Type 1} → statement M
 write_spec = tie.close (tie.spec (λ c κs. search rules) (λ c κs. search rules) returns (λ c κs. search rules) returns-2 (λ c. search rules)

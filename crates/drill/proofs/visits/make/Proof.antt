@@ -11,8 +11,8 @@ returns c =
     let at-kept-of = c.before.before.before.before in
     let at-start = at-kept-of.before.before.before.before in
     let a = at-start.args in
-    c.before.before.make_in.ensures ∙ rw (
-      at-kept-of.before.call_of-call.ensures,
+    c.make_in.ensures ∙ rw (
+      at-kept-of.call_of-call.ensures,
       at-kept-of.kept_of.ensures,
     ) (core_make_lem a.work.now a.client at-start.requires.0
     at-start.requires.1 a.t a.server (call_in a.work.now a.client) a.out.now)

@@ -7,7 +7,7 @@ use Rattle.drill.proofs.visits.visit.Tie as tie
 
 -- Places far back, each named once: the place, and from where it is seen.
 abbrev start-from-make : tie.After-make-made → tie.Start
-start-from-make c = c.before.before.before.before
+start-from-make c = c.before.before.before
 
 serve-requires : tie.Need-serve-sent-requires
 serve-requires c κs =
@@ -25,8 +25,8 @@ returns c =
     let at-start = start-from-make at-make in
     let a = at-start.args in
     visit-done a.t a.client a.server a.work.now at-start.requires.0.0 at-start.requires.1.0 at-start.requires.1.1
-    at-make.make-made.ensures at-serve.before.before.part.ensures at-serve.serve-sent.ensures
-    at_take.before.before.part-2.ensures at_take.take-taken.ensures c.taken.ensures
+    at-make.make-made.ensures at-serve.part.ensures at-serve.serve-sent.ensures
+    at_take.part-2.ensures at_take.take-taken.ensures c.taken.ensures
 
 pub visit_spec : {M : Type 1} → statement M
 visit_spec = tie.close (tie.spec (λ c. search rules) (λ c κs. search rules) (λ c. search rules) (λ c κs. search rules) (λ c. search rules)

@@ -10,11 +10,11 @@ use Rattle.drill.proofs.visits.writers_for.Tie as tie
 
 returns : tie.Need-returns-then-outside
 unfolding drill_shelf lent_to
-returns c = rw (is-out 1 top_writer _ c.before.outside.ensures c.if-outside.true) refl
+returns c = rw (is-out 1 top_writer _ c.outside.ensures c.if-outside.true) refl
 
 returns-2 : tie.Need-returns
 unfolding drill_shelf lent_to
-returns-2 c = rw (inside 1 top_writer _ (is_in 1 top_writer _ c.before.outside.ensures c.if-outside.false)) refl
+returns-2 c = rw (inside 1 top_writer _ (is_in 1 top_writer _ c.outside.ensures c.if-outside.false)) refl
 
 pub writers_for_spec : {M : Type 1} → statement M
 writers_for_spec = tie.close (tie.spec (λ c κs. search rules) returns returns-2)

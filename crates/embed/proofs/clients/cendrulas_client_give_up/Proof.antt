@@ -9,8 +9,8 @@ use Rattle.embed.proofs.clients.cendrulas_client_give_up.Tie as tie
 
 returns : tie.Need-returns-then-state-ne-CLIENT
 returns c =
-    let a = c.before.before.before.args in
-    rw c.pack.ensures (give-up-unsized a.state.now a.t a.client c.before.if-state-ne-CLIENT.true)
+    let a = c.args in
+    rw c.pack.ensures (give-up-unsized a.state.now a.t a.client c.if-state-ne-CLIENT.true)
 
 returns-2 : tie.Need-returns
 returns-2 c =
@@ -18,9 +18,9 @@ returns-2 c =
     let g = p.before.before in
     let z = g.before.before.before.before.before in
     let a = z.args in
-    give-up-done a.state.now a.t a.client g.before.before.before.if-state-ne-CLIENT.false g.before.read-call.result g.give_up_in-stopped.result _ _
-    g.before.read-call.ensures g.give_up_in-stopped.ensures p.put_call.ensures
-    (c.pack_answer.ensures ∙ ap packed_answer c.before.answer.ensures.0)
+    give-up-done a.state.now a.t a.client g.if-state-ne-CLIENT.false g.read-call.result g.give_up_in-stopped.result _ _
+    g.read-call.ensures g.give_up_in-stopped.ensures p.put_call.ensures
+    (c.pack_answer.ensures ∙ ap packed_answer c.answer.ensures.0)
 
 pub cendrulas_client_give_up_spec : {M : Type 1} → statement M
 cendrulas_client_give_up_spec = tie.close (tie.spec (λ c κs. search rules) returns (λ c κs. search rules) (λ c κs. search rules)

@@ -7,9 +7,9 @@ use Rattle.embed.proofs.clients.cendrulas_client_take.Tie as tie
 
 returns : tie.Need-returns-then-state-ne-CLIENT
 returns c =
-    let a = c.before.before.before.before.before.before.before.args in
+    let a = c.args in
     rw c.pack.ensures (take-unsized a.state.now a.t a.client a.writers.now a.keys.now a.packet.now a.out.now
-    c.before.if-state-ne-CLIENT.true)
+    c.if-state-ne-CLIENT.true)
 
 -- Places far back, each named once: the place, and from where it is seen.
 abbrev start-from-else1 : tie.Else-state-ne-CLIENT → tie.Start
@@ -19,13 +19,13 @@ returns-2 : tie.Need-returns-then-writers-ne-KEY
 returns-2 c =
     let a = (start-from-else1 c.before.before).args in
     rw c.pack-then-writers-ne-KEY.ensures (take-other-key a.state.now a.t a.client a.writers.now a.keys.now a.packet.now a.out.now
-    c.before.before.if-state-ne-CLIENT.false c.before.if-writers-ne-KEY.true)
+    c.if-state-ne-CLIENT.false c.if-writers-ne-KEY.true)
 
 returns-3 : tie.Need-returns-then-keys-ne-KEYS
 returns-3 c =
     let a = (start-from-else1 c.before.before.before).args in
     rw c.pack-then-keys-ne-KEYS.ensures (take-other-keys a.state.now a.t a.client a.writers.now a.keys.now a.packet.now a.out.now
-    c.before.before.before.if-state-ne-CLIENT.false c.before.before.if-writers-ne-KEY.false c.before.if-keys-ne-KEYS.true)
+    c.if-state-ne-CLIENT.false c.if-writers-ne-KEY.false c.if-keys-ne-KEYS.true)
 
 returns-4 : tie.Need-returns
 returns-4 c =
@@ -34,7 +34,7 @@ returns-4 c =
     let at-else1 = at-keys-of.before.before.before.before in
     let a = (start-from-else1 at-else1).args in
     take_done a.state.now a.t a.client a.writers.now a.keys.now a.packet.now a.out.now at-else1.if-state-ne-CLIENT.false
-    at-keys-of.before.before.before.if-writers-ne-KEY.false at-keys-of.before.before.if-keys-ne-KEYS.false _ _ _ at-keys-of.before.array-w.ensures
+    at-keys-of.if-writers-ne-KEY.false at-keys-of.if-keys-ne-KEYS.false _ _ _ at-keys-of.array-w.ensures
     at-keys-of.keys_of-k.ensures at-take-packet.take_packet.ensures
 
 pub cendrulas_client_take_spec : {M : Type 1} → statement M

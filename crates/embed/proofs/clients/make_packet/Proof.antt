@@ -19,7 +19,7 @@ abbrev start-from-rest : tie.After-rest → tie.Start
 start-from-rest c = c.before.before.before.before.before
 
 slice-aggregate-make-in : tie.Need-slice_bounds-make_in-end-2
-slice-aggregate-make-in c = let a = (start-from-rest c.before).args in let l = c.before.before.lent-n in sym
+slice-aggregate-make-in c = let a = (start-from-rest c.before).args in let l = c.lent-n in sym
     (length-take-le l.result a.out.now l.ensures.0)
 
 cast-pack : tie.Need-overflow_cast-count
@@ -28,10 +28,10 @@ cast-pack c =
     let at-start = start-from-rest at_rest in
     let a = at-start.args in
     let d = a.state.now in
-    let l = at_rest.before.lent-n in
-    let m = c.before.before.make_in-o in
+    let l = at_rest.lent-n in
+    let m = c.make_in-o in
     let e = m.ensures ∙ core-made d at-start.requires a.t a.client a.server
-    at_rest.before.before.read-call.result _ (take l.result a.out.now) at_rest.before.before.read-call.ensures at_rest.rest.ensures in
+    at_rest.read-call.result _ (take l.result a.out.now) at_rest.read-call.ensures at_rest.rest.ensures in
     let n : m.result.count ≤ packet_room = made-count a.out.now l.result l.ensures.0 l.ensures.1.0 l.ensures.1.1 a.t
     a.client a.server (call_at d) (kept_of_def d) m.result m.new.1.1.1.1.0 e m.auto.1.1.1.1.0 in omega (arith, n)
 
@@ -41,11 +41,11 @@ returns c =
     let at-start = start-from-rest at_rest in
     let a = at-start.args in
     let d = a.state.now in
-    let l = at_rest.before.lent-n in
-    let m = c.before.before.before.make_in-o in
+    let l = at_rest.lent-n in
+    let m = c.make_in-o in
     let e = m.ensures ∙ core-made d at-start.requires a.t a.client
-    a.server at_rest.before.before.read-call.result _ (take l.result a.out.now)
-    at_rest.before.before.read-call.ensures at_rest.rest.ensures in
+    a.server at_rest.read-call.result _ (take l.result a.out.now)
+    at_rest.read-call.ensures at_rest.rest.ensures in
     made-out a.out.now l.result l.ensures.0 l.ensures.1.0 l.ensures.1.1 a.t a.client a.server (call_at d) (kept_of_def d)
     m.result m.new.1.1.1.1.0 e m.auto.1.1.1.1.0 _ c.pack.ensures
 

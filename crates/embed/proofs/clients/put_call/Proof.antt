@@ -13,7 +13,7 @@ returns c =
     let at-start = c.before.before.before.before.before in
     let a = at-start.args in
     let m : length a.call.tally.marks ≡ most_servers = search rules in
-    c.before.before.put.ensures ∙ put_first a.state.now at-start.requires a.call m
+    c.put.ensures ∙ put_first a.state.now at-start.requires a.call m
 
 pub put_call_spec : {M : Type 1} → statement M
 put_call_spec = tie.close (tie.spec (λ c κs. search rules) (λ c. search rules) returns)

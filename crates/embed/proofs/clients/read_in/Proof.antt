@@ -19,10 +19,10 @@ returns c =
     let d = a.state.now in
     let e = core_read_lem d at-start.requires a.t a.client in
     began d at-start.requires (begin_read_def a.t a.client (call_at d) (kept_of_def d)) begun.begin_read_in-begun.result begun.begin_read_in-begun.new.1.0
-    c.before.before.before.put_call.new.0
-    (begun.begin_read_in-begun.ensures.0 ∙ rw at-begin-read-in.before.before.read-call.ensures (ap started e))
-    (begun.begin_read_in-begun.ensures.1 ∙ rw at-begin-read-in.before.before.read-call.ensures
-    (ap (λ (b : Begun). b.kept) e)) c.before.before.before.put_call.ensures
+    c.put_call.new.0
+    (begun.begin_read_in-begun.ensures.0 ∙ rw at-begin-read-in.read-call.ensures (ap started e))
+    (begun.begin_read_in-begun.ensures.1 ∙ rw at-begin-read-in.read-call.ensures
+    (ap (λ (b : Begun). b.kept) e)) c.put_call.ensures
 
 pub read_in_spec : {M : Type 1} → statement M
 read_in_spec = tie.close (tie.spec (λ c κs. search rules) (λ c. search rules) (λ c. search rules) (λ c. search rules) (λ c κs. search rules)

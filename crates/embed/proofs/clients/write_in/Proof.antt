@@ -19,10 +19,10 @@ returns c =
     let d = a.state.now in
     let e = core_write_lem d at-start.requires a.t a.client a.content.now a.nonce in
     began d at-start.requires (begin_write_def a.t a.client (call_at d) (kept_of_def d) a.content.now a.nonce) begun.begin_write_in-begun.result
-    begun.begin_write_in-begun.new.1.0 c.before.before.before.put_call.new.0
-    (begun.begin_write_in-begun.ensures.0 ∙ rw at-begin-write-in.before.before.before.read-call.ensures
+    begun.begin_write_in-begun.new.1.0 c.put_call.new.0
+    (begun.begin_write_in-begun.ensures.0 ∙ rw at-begin-write-in.read-call.ensures
     (ap started e)) (begun.begin_write_in-begun.ensures.1 ∙ rw
-    at-begin-write-in.before.before.before.read-call.ensures (ap (λ (b : Begun). b.kept) e)) c.before.before.before.put_call.ensures
+    at-begin-write-in.read-call.ensures (ap (λ (b : Begun). b.kept) e)) c.put_call.ensures
 
 pub write_in_spec : {M : Type 1} → statement M
 write_in_spec = tie.close (tie.spec (λ c κs. search rules) (λ c. search rules) (λ c. search rules) (λ c. search rules) (λ c κs. search rules)

@@ -11,37 +11,37 @@ use Rattle.embed.proofs.coding.cendrulas_fragment.Tie as tie
 
 returns : tie.Need-returns-then-out-lt-ROOM
 returns c =
-    let a = c.before.before.before.before.args in
+    let a = c.args in
     refused 254 _ _ (fragment_bytes a.t a.server a.content.now) a.out.now
-    (no_room a.t a.server a.content.now a.out.now c.before.if-out-lt-ROOM.true)
+    (no_room a.t a.server a.content.now a.out.now c.if-out-lt-ROOM.true)
     c.pack.ensures
 
 returns-2 : tie.Need-returns-then-number-ne0
 returns-2 c =
     let past = c.before.before in
-    let a = past.before.before.before.before.args in
+    let a = past.args in
     let made = past.fragment-made.result in
     refused_with_lem made.number _ _ (fragment_bytes a.t a.server a.content.now) a.out.now
-    (own-refusal a.t a.server a.content.now made past.fragment-made.ensures a.out.now (omega (arith, past.before.if-out-lt-ROOM.false)))
-    c.before.if-number-ne0.true
+    (own-refusal a.t a.server a.content.now made past.fragment-made.ensures a.out.now (omega (arith, past.if-out-lt-ROOM.false)))
+    c.if-number-ne0.true
     c.pack-then-number-ne0.ensures
 
 put-requires : tie.Need-put-requires
 put-requires c κs =
     let past = c.before.before.before.before in
-    let a = past.before.before.before.before.args in
+    let a = past.args in
     let made = past.fragment-made.result in
     let is = past.fragment-made.ensures in
-    let none = c.before.before.before.if-number-ne0.false in (
+    let none = c.if-number-ne0.false in (
       made-long a.t a.server a.content.now made is none,
-      omega (arith, made-room a.t a.server a.content.now made is none, past.before.if-out-lt-ROOM.false),
+      omega (arith, made-room a.t a.server a.content.now made is none, past.if-out-lt-ROOM.false),
     )
 
 cast-pack : tie.Need-overflow_cast-count
 cast-pack c =
     let tested = c.before.before.before.before.before.before in
     let past = tested.before in
-    let a = past.before.before.before.before.args in
+    let a = past.args in
     omega (arith, made-room a.t a.server a.content.now past.fragment-made.result past.fragment-made.ensures tested.if-number-ne0.false)
 
 returns-3 : tie.Need-returns
@@ -49,13 +49,13 @@ returns-3 c =
     let past-put = c.before.before.before in
     let tested = past-put.before.before.before.before in
     let past = tested.before in
-    let a = past.before.before.before.before.args in
+    let a = past.args in
     let content = a.content.now in
     let made = past.fragment-made.result in
     let is = past.fragment-made.ensures in
     let none = tested.if-number-ne0.false in
     carried-out made.count _ _ (fragment_bytes a.t a.server content) made.bytes a.out.now _
-    (own-refusal a.t a.server content made is a.out.now (omega (arith, past.before.if-out-lt-ROOM.false)) ∙ none)
+    (own-refusal a.t a.server content made is a.out.now (omega (arith, past.if-out-lt-ROOM.false)) ∙ none)
     c.pack-2.ensures
     (made_bytes a.t a.server content made is none)
     (made-count a.t a.server content made is none)

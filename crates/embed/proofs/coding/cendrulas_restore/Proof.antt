@@ -8,7 +8,7 @@ use Rattle.embed.proofs.coding.cendrulas_restore.Tie as tie
 cast-pack : tie.Need-overflow_cast-count
 cast-pack c =
     let past = c.before.before in
-    let a = past.before.before.before.before.before.args in
+    let a = past.args in
     omega (
       arith,
       restored-count a.t a.length a.servers.now a.fragments.now a.out.now past.restore-outcome.result _
@@ -18,7 +18,7 @@ cast-pack c =
 returns : tie.Need-returns
 returns c =
     let past = c.before.before.before in
-    let a = past.before.before.before.before.before.args in
+    let a = past.args in
     restored-answer a.t a.length a.servers.now a.fragments.now a.out.now past.restore-outcome.result _ _ past.restore-outcome.ensures
     c.pack.ensures
 

@@ -11,14 +11,14 @@ use Rattle.embed.proofs.digests.cendrulas_digest.Tie as tie
 
 returns : tie.Need-returns-then-out-lt-DIGEST
 returns c =
-    let a = c.before.before.before.before.args in
-    refused 254 _ _ (sha256 a.message.now) a.out.now (digest_short a.out.now c.before.if-out-lt-DIGEST.true) c.pack.ensures
+    let a = c.args in
+    refused 254 _ _ (sha256 a.message.now) a.out.now (digest_short a.out.now c.if-out-lt-DIGEST.true) c.pack.ensures
 
 returns-2 : tie.Need-returns
 returns-2 c =
     let past-put = c.before.before.before in
     let past-digest = past-put.before.before.before in
-    let a = past-digest.before.before.before.before.args in
+    let a = past-digest.args in
     let long = sha-length a.message.now in
     carried-out digest_size _ _ _ past-digest.digest-digest.result a.out.now _ (digest-room a.out.now (omega arith)) c.pack-2.ensures
     (all_of digest_size past-digest.digest-digest.result (sha256 a.message.now) past-digest.digest-digest.ensures long)

@@ -16,9 +16,9 @@ use Rattle.embed.proofs.digests.cendrulas_hmac.Tie as tie
 returns : tie.Need-returns-then-refusal-ne0
 returns c =
     let asked = c.before.before in
-    let a = asked.before.before.before.before.args in
+    let a = asked.args in
     refused_with_lem asked.keyed_refusal-refusal.result _ _ (hmac_sha256 a.key.now a.message.now) a.out.now
-    (sym asked.keyed_refusal-refusal.ensures) c.before.if-refusal-ne0.true c.pack.ensures
+    (sym asked.keyed_refusal-refusal.ensures) c.if-refusal-ne0.true c.pack.ensures
 
 -- Places far back, each named once: the place, and from where it is seen.
 abbrev start-from-else1 : tie.Else-refusal-ne0 → tie.Start
@@ -29,7 +29,7 @@ fine : (c : tie.Else-refusal-ne0)
     → (length (start-from-else1 c).args.key.now ≡ key_size) × (digest_size ≤ length (start-from-else1 c).args.out.now)
 fine c =
     let a = (start-from-else1 c).args in
-    keyed_fine digest_size a.key.now (length a.out.now) (sym c.before.keyed_refusal-refusal.ensures ∙ c.if-refusal-ne0.false)
+    keyed_fine digest_size a.key.now (length a.out.now) (sym c.keyed_refusal-refusal.ensures ∙ c.if-refusal-ne0.false)
 
 array-requires : tie.Need-array-requires
 array-requires c κs = (fine c).0
@@ -49,7 +49,7 @@ returns-2 c =
     let long = hmac-length key message in
     let made = past-hmac.hmac-whole.ensures ∙ ap (λ (k : List ℕ). hmac_sha256 k message) past-array.array.ensures in
     carried-out digest_size _ _ _ past-hmac.hmac-whole.result a.out.now _
-    (sym past-test.before.keyed_refusal-refusal.ensures ∙ past-test.if-refusal-ne0.false)
+    (sym past-test.keyed_refusal-refusal.ensures ∙ past-test.if-refusal-ne0.false)
     c.pack-2.ensures
     (all_of digest_size past-hmac.hmac-whole.result (hmac_sha256 key message) made long)
     long

@@ -6,13 +6,13 @@ use Rattle.embed.proofs.digests.keyed_refusal.Statement.{statement}
 use Rattle.embed.proofs.digests.keyed_refusal.Tie as tie
 
 returns : tie.Need-returns-then-key-ne-KEY
-returns c = let a = c.before.args in sym (keyed_wrong a.n a.key.now a.room c.if-key-ne-KEY.true)
+returns c = let a = c.args in sym (keyed_wrong a.n a.key.now a.room c.if-key-ne-KEY.true)
 
 returns-2 : tie.Need-returns-then-room-n
-returns-2 c = let a = c.before.before.args in sym (keyed_short a.n a.key.now a.room c.before.if-key-ne-KEY.false c.if-room-n.true)
+returns-2 c = let a = c.args in sym (keyed_short a.n a.key.now a.room c.if-key-ne-KEY.false c.if-room-n.true)
 
 returns-3 : tie.Need-returns
-returns-3 c = let a = c.before.before.args in sym (keyed-room a.n a.key.now a.room c.before.if-key-ne-KEY.false (omega arith))
+returns-3 c = let a = c.args in sym (keyed-room a.n a.key.now a.room c.if-key-ne-KEY.false (omega arith))
 
 pub keyed_refusal_spec : {M : Type 1} → statement M
 keyed_refusal_spec = tie.close (tie.spec returns returns-2 returns-3)

@@ -16,7 +16,7 @@ abbrev decreases-loop : tie.decreases-loop-i
 decreases-loop flat keys₀ i₀ keys i = most_servers - i
 
 loop-holds : tie.Need-loop-i-init invariant-loop decreases-loop
-loop-holds c = (omega arith, sym (filled_none c.before.args.flat.now))
+loop-holds c = (omega arith, sym (filled_none c.args.flat.now))
 
 part-requires : tie.Need-part-requires invariant-loop decreases-loop
 part-requires c κs = tt
@@ -24,18 +24,18 @@ part-requires c κs = tt
 array-requires : tie.Need-array-requires invariant-loop decreases-loop
 array-requires c κs =
     let at-start = c.before.before.before.before in
-    ap length c.part.ensures ∙ key-size at-start.args.flat.now c.before.before.loop-i.i at-start.requires (omega arith)
+    ap length c.part.ensures ∙ key-size at-start.args.flat.now c.loop-i.i at-start.requires (omega arith)
 
 loop-again : tie.Need-loop-i-preserved invariant-loop decreases-loop
 loop-again c =
-    let l = c.before.before.before.loop-i in
-    let d = c.before.before.before.before.before.args.flat.now in
-    (omega arith, rw (l.invariant.1, c.array.ensures, c.before.part.ensures) (filled_more d l.i (omega arith)))
+    let l = c.loop-i in
+    let d = c.args.flat.now in
+    (omega arith, rw (l.invariant.1, c.array.ensures, c.part.ensures) (filled_more d l.i (omega arith)))
 
 returns : tie.Need-returns invariant-loop decreases-loop
 returns c =
-    let l = c.before.loop-i in
-    let d = c.before.before.before.args.flat.now in
+    let l = c.loop-i in
+    let d = c.args.flat.now in
     let e : l.i ≡ most_servers = omega arith in
     l.invariant.1 ∙ ap (filled d) e ∙ filled_all d
 

@@ -10,7 +10,7 @@ use Rattle.embed.proofs.pack.array.Tie as tie
 
 returns : tie.Need-returns
 returns c =
-    let s = c.before.before.args.src.now in
+    let s = c.args.src.now in
     c.nonce_of.ensures ∙ padded-whole nonce_size s (omega arith) ∙ take_all nonce_size s (omega arith)
 
 pub array_spec : {M : Type 1} → statement M

@@ -9,7 +9,7 @@ returns c =
     let at-start = c.before.before.before.before.before.before.before in
     let a = at-start.args in
     let p = at-start.requires in
-    copied_front a.src.now a.dst.now a.n p.0 p.1 c.before.before.before.part.ensures c.before.before.put.ensures
+    copied_front a.src.now a.dst.now a.n p.0 p.1 c.part.ensures c.put.ensures
 
 pub put_spec : {M : Type 1} → statement M
 put_spec = tie.close (tie.spec (λ c κs. search rules) (λ c κs. search rules) (λ c. search rules) returns)

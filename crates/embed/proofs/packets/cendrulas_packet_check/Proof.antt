@@ -9,15 +9,15 @@ use Rattle.embed.proofs.packets.cendrulas_packet_check.Tie as tie
 
 returns : tie.Need-returns-in_default
 returns c =
-    let s = c.before.before.before.before.before.args.packet.now in
-    c.pack.ensures ∙ ap (λ (n : ℕ). packed n 0 0 0) (sym (layout_broken s (rw c.before.enum_told-in_default-1.given.1 at
-    c.before.before.before.read_packet.ensures)))
+    let s = c.args.packet.now in
+    c.pack.ensures ∙ ap (λ (n : ℕ). packed n 0 0 0) (sym (layout_broken s (rw c.enum_told-in_default-1.given.1 at
+    c.read_packet.ensures)))
 
 returns-2 : tie.Need-returns
 returns-2 c =
     let at-read-packet = c.before.before.before in
-    let s = at-read-packet.before.before.args.packet.now in
-    c.pack-2.ensures ∙ ap (λ (n : ℕ). packed n 0 0 0) (sym (layout-kept s _ (rw c.before.enum_told-1.given.1 at
+    let s = at-read-packet.args.packet.now in
+    c.pack-2.ensures ∙ ap (λ (n : ℕ). packed n 0 0 0) (sym (layout-kept s _ (rw c.enum_told-1.given.1 at
     at-read-packet.read_packet.ensures).packet))
 
 pub cendrulas_packet_check_spec : {M : Type 1} → statement M

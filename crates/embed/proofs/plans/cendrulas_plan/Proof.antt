@@ -10,19 +10,19 @@ use Rattle.embed.proofs.plans.cendrulas_plan.Tie as tie
 
 returns : tie.Need-returns-then-numbers-lt-NUMBERS
 returns c =
-    let a = c.before.before.before.args in
+    let a = c.args in
     refused 254 _ _ (planned_numbers a.t a.length a.readers a.stores) a.numbers.now
-    (plan_no-room a.t a.length a.readers a.stores a.numbers.now c.before.if-numbers-lt-NUMBERS.true)
+    (plan_no-room a.t a.length a.readers a.stores a.numbers.now c.if-numbers-lt-NUMBERS.true)
     c.pack.ensures
 
 returns-2 : tie.Need-returns-then-number-ne0
 returns-2 c =
     let past = c.before.before in
-    let a = past.before.before.before.args in
+    let a = past.args in
     let plan = past.plan-plan.result in
     refused_with_lem plan.number _ _ (planned_numbers a.t a.length a.readers a.stores) a.numbers.now
-    (plan-refusal a.t a.length a.readers a.stores plan a.numbers.now past.plan-plan.ensures (omega (arith, past.before.if-numbers-lt-NUMBERS.false)))
-    c.before.if-number-ne0.true
+    (plan-refusal a.t a.length a.readers a.stores plan a.numbers.now past.plan-plan.ensures (omega (arith, past.if-numbers-lt-NUMBERS.false)))
+    c.if-number-ne0.true
     c.pack-then-number-ne0.ensures
 
 returns-3 : tie.Need-returns
@@ -30,9 +30,9 @@ returns-3 c =
     let past-put = c.before.before.before in
     let tested = past-put.before.before in
     let past = tested.before in
-    let a = past.before.before.before.args in
+    let a = past.args in
     plan-given a.t a.length a.readers a.stores past.plan-plan.result a.numbers.now past.plan-plan.ensures
-    (omega (arith, past.before.if-numbers-lt-NUMBERS.false))
+    (omega (arith, past.if-numbers-lt-NUMBERS.false))
     tested.if-number-ne0.false
     c.pack-2.ensures
     past-put.put_plan.ensures

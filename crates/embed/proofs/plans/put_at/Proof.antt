@@ -23,30 +23,30 @@ loop-holds c = (omega arith, paste-zero c.args.dst.now c.args.at c.args.src.now)
 slice-write-dst : tie.Need-bounds-dst-at invariant-loop decreases-loop
 slice-write-dst c = omega (
   arith,
-  ap length c.before.before.loop-i.invariant.1,
-  length-paste c.before.before.before.args.dst.now
-      c.before.before.before.args.at c.before.before.before.args.src.now c.before.before.loop-i.i (omega arith) (omega arith),
+  ap length c.loop-i.invariant.1,
+  length-paste c.args.dst.now
+      c.args.at c.args.src.now c.loop-i.i (omega arith) (omega arith),
 )
 
 loop-again : tie.Need-loop-i-preserved invariant-loop decreases-loop
 loop-again c =
-    let a = c.before.before.before.args in
-    let i = c.before.before.loop-i.i in (
+    let a = c.args in
+    let i = c.loop-i.i in (
       omega arith,
-      ap (λ (z : List ℕ). set z (a.at + i) (get_or a.src.now i 0)) c.before.before.loop-i.invariant.1 ∙ paste-suc a.dst.now a.at
+      ap (λ (z : List ℕ). set z (a.at + i) (get_or a.src.now i 0)) c.loop-i.invariant.1 ∙ paste-suc a.dst.now a.at
           a.src.now i 0 (omega arith) (omega arith)
           ∙ ap (paste a.dst.now a.at a.src.now) (sym (add-one i)),
     )
 
 same_length : tie.Need-shape_of-dst invariant-loop decreases-loop
-same_length c = ap length c.before.loop-i.invariant.1 ∙ length-paste c.before.before.args.dst.now c.before.before.args.at
-    c.before.before.args.src.now c.before.loop-i.i (omega arith) (omega arith)
+same_length c = ap length c.loop-i.invariant.1 ∙ length-paste c.args.dst.now c.args.at
+    c.args.src.now c.loop-i.i (omega arith) (omega arith)
 
 returns : tie.Need-returns invariant-loop decreases-loop
 returns c =
-    let a = c.before.before.args in
-    let e : c.before.loop-i.i ≡ length a.src.now = omega arith in
-    rw (c.before.loop-i.invariant.1, e) (wrote-copy a.dst.now a.at a.src.now)
+    let a = c.args in
+    let e : c.loop-i.i ≡ length a.src.now = omega arith in
+    rw (c.loop-i.invariant.1, e) (wrote-copy a.dst.now a.at a.src.now)
 
 pub put_at_spec : {M : Type 1} → statement M
 put_at_spec = tie.close (tie.spec invariant-loop decreases-loop loop-holds (λ c. search rules) (λ c. omega arith) (λ c. omega arith) (λ c. search rules)

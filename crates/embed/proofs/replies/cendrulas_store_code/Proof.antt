@@ -15,19 +15,19 @@ use Rattle.embed.proofs.replies.cendrulas_store_code.Tie as tie
 
 returns : tie.Need-returns-in_default
 returns c =
-    let s = c.before.before.before.before.before.args.packet.now in
-    c.pack.ensures ∙ sym (code_broken s (rw c.before.enum_told-1.given.1 at c.before.before.before.read_packet.ensures))
+    let s = c.args.packet.now in
+    c.pack.ensures ∙ sym (code_broken s (rw c.enum_told-1.given.1 at c.read_packet.ensures))
 
 -- What was read, from the place past it.
 module _ (c : tie.In-Value-2) where
   abbrev s : List ℕ
-  s = c.before.before.before.before.args.packet.now
+  s = c.args.packet.now
 
   abbrev passed : Passed
   passed = c.passed-1.given.0.0
 
   read : TookPacket s passed.head passed.label passed.number
-  read = rw c.passed-1.given.1 at c.before.before.read_packet.ensures
+  read = rw c.passed-1.given.1 at c.read_packet.ensures
 
 abbrev passed-from-head : tie.After-head-1 → tie.In-Value-2
 passed-from-head c = c.before.before
@@ -35,19 +35,19 @@ passed-from-head c = c.before.before
 returns-2 : tie.Need-returns-then-head-ne-STORE_REPLY
 returns-2 c =
     let p = passed-from-head c.before.before.before in
-    c.pack-then-head-ne-STORE_REPLY.ensures ∙ sym (code_other (s p) (passed p).head (read p).packet c.before.if-head-ne-STORE_REPLY.true)
+    c.pack-then-head-ne-STORE_REPLY.ensures ∙ sym (code_other (s p) (passed p).head (read p).packet c.if-head-ne-STORE_REPLY.true)
 
 -- the code is a byte of the packet
 cast-pack : tie.Need-overflow_cast-passed
 cast-pack c =
     let p = passed-from-head c.before.before.before in
-    let h = p.before.before.before.shared_slice_known-1.given head_size in
-    omega (arith, (read p).number, told_code (passed p).head (s p) c.before.if-head-ne-STORE_REPLY.false, get_or-drop head_size (s p) 0 0)
+    let h = p.shared_slice_known-1.given head_size in
+    omega (arith, (read p).number, told_code (passed p).head (s p) c.if-head-ne-STORE_REPLY.false, get_or-drop head_size (s p) 0 0)
 
 returns-3 : tie.Need-returns
 returns-3 c =
     let p = passed-from-head c.before.before.before.before in
-    code-store (s p) (passed p).head (read p).packet c.before.before.if-head-ne-STORE_REPLY.false (passed p).number _ (read p).number c.pack-2.ensures
+    code-store (s p) (passed p).head (read p).packet c.if-head-ne-STORE_REPLY.false (passed p).number _ (read p).number c.pack-2.ensures
 
 pub cendrulas_store_code_spec : {M : Type 1} → statement M
 cendrulas_store_code_spec = tie.close (tie.spec (λ c κs. search rules) (λ c. search rules) (λ c. search rules) (λ c κs. search rules) returns

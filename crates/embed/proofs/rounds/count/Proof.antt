@@ -24,23 +24,23 @@ loop-holds : tie.Need-loop-i-init invariant-loop decreases-loop
 loop-holds c = (omega arith, sym (count_none _))
 
 added : (c : tie.After-for_mark-sum invariant-loop decreases-loop) → c.for_mark-sum.result ≤ 1
-added c = rw c.for_mark-sum.ensures (for-le (not (eqb (get_or c.before.before.before.args.marks c.before.before.loop-i.i 0) 0)) 1)
+added c = rw c.for_mark-sum.ensures (for-le (not (eqb (get_or c.args.marks c.loop-i.i 0) 0)) 1)
 
 add-sum : tie.Need-overflow_add-sum invariant-loop decreases-loop
 add-sum c =
-    let l = c.before.before.loop-i in
-    let a = c.before.before.before.args in
+    let l = c.loop-i in
+    let a = c.args in
     omega (arith, added c, l.invariant.0, l.invariant.1, count-le l.i (marked a.marks))
 
 loop-again : tie.Need-loop-i-preserved invariant-loop decreases-loop
 loop-again c =
-    let l = c.before.before.loop-i in
-    let a = c.before.before.before.args in
+    let l = c.loop-i in
+    let a = c.args in
     (omega arith, omega (arith, l.invariant.1, count_more a.marks l.i c.for_mark-sum.result c.for_mark-sum.ensures))
 
 returns : tie.Need-returns invariant-loop decreases-loop
 returns c =
-    let l = c.before.loop-i in
+    let l = c.loop-i in
     let e : l.i ≡ most_servers = omega arith in
     l.invariant.1 ∙ rw e refl
 

@@ -9,9 +9,9 @@ use Rattle.embed.proofs.servers.cendrulas_server_blank.Tie as tie
 
 returns : tie.Need-returns
 returns c = (
-  c.pack.ensures ∙ ap (λ (b : Blanked). packed b.result.number 0 0 0) c.before.before.before.blank-o.ensures,
+  c.pack.ensures ∙ ap (λ (b : Blanked). packed b.result.number 0 0 0) c.blank-o.ensures,
   ap
-      (λ (b : Blanked). b.memory) c.before.before.before.blank-o.ensures,
+      (λ (b : Blanked). b.memory) c.blank-o.ensures,
 )
 
 pub cendrulas_server_blank_spec : {M : Type 1} → statement M

@@ -26,17 +26,17 @@ as_before p q count latest x y e f g h = rw (eq-eqb p count (sym e ∙ g), eq-eq
 
 returns : tie.Need-returns-then-byte_at-count
 returns c =
-    let a = c.before.before.before.args in
-    other-count _ (rank (stamp_at_def (drop latest_place a.memory.now))) _ a.latest _ c.before.byte_at.ensures c.if-byte_at-count.true
+    let a = c.args in
+    other-count _ (rank (stamp_at_def (drop latest_place a.memory.now))) _ a.latest _ c.byte_at.ensures c.if-byte_at-count.true
 
 returns-2 : tie.Need-returns-then-latest_rank-latest
 returns-2 c =
-    let a = c.before.before.before.before.before.args in
-    other-rank (get_or a.memory.now count_place 0) _ a.count _ _ c.before.latest_rank.ensures c.if-latest_rank-latest.true
+    let a = c.args in
+    other-rank (get_or a.memory.now count_place 0) _ a.count _ _ c.latest_rank.ensures c.if-latest_rank-latest.true
 
 returns-3 : tie.Need-returns
 returns-3 c =
-    as_before _ _ _ _ _ _ c.before.before.before.byte_at.ensures c.before.latest_rank.ensures c.before.before.if-byte_at-count.false
+    as_before _ _ _ _ _ _ c.byte_at.ensures c.latest_rank.ensures c.if-byte_at-count.false
     c.if-latest_rank-latest.false
 
 pub changed_spec : {M : Type 1} → statement M

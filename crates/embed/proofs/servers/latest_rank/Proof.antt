@@ -9,7 +9,7 @@ use Rattle.embed.proofs.servers.latest_rank.Statement.{statement}
 use Rattle.embed.proofs.servers.latest_rank.Tie as tie
 
 returns : tie.Need-returns
-returns c = c.rank_at.ensures ∙ ap (λ (d : List ℕ). rank (stamp_at_def d)) c.before.rest.ensures
+returns c = c.rank_at.ensures ∙ ap (λ (d : List ℕ). rank (stamp_at_def d)) c.rest.ensures
 
 pub latest_rank_spec : {M : Type 1} → statement M
 latest_rank_spec = tie.close (tie.spec (λ c κs. search rules) (λ c κs. search rules) returns)

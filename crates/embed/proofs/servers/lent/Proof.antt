@@ -11,7 +11,7 @@ returns : tie.Need-returns-then-room-lt-PACKET_ROOM
 returns c = search rules
 
 returns-2 : tie.Need-returns
-returns-2 c = (omega arith, (le_refl 6400, le-ltb c.before.args.room 6400 (omega arith)))
+returns-2 c = (omega arith, (le_refl 6400, le-ltb c.args.room 6400 (omega arith)))
 
 pub lent_spec : {M : Type 1} → statement M
 lent_spec = tie.close (tie.spec returns returns-2)

@@ -13,8 +13,8 @@ use Rattle.embed.proofs.servers.serve.Tie as tie
 slice-aggregate-take : tie.Need-slice_bounds-take-end-2
 slice-aggregate-take c =
     let past-lent = c.before.before.before.before in
-    let a = past-lent.before.before.before.before.before.before.before.args in
-    let l = c.before.before.before.lent-n in
+    let a = past-lent.args in
+    let l = c.lent-n in
     sym (length-take-le l.result a.out.now l.ensures.0)
 
 cast-pack : tie.Need-overflow_cast-count
@@ -22,7 +22,7 @@ cast-pack c =
     let past-take = c.before.before.before.before.before.before in
     let past-lent = past-take.before.before.before.before in
     let past-byte = past-lent.before.before.before in
-    let a = past-byte.before.before.before.before.before.args in
+    let a = past-byte.args in
     let l = past-lent.lent-n in
     let t = past-take.take-o in
     let n : t.result.count ≤ packet_room = served-count a.memory.now a.key a.packet.now a.out.now l.result l.ensures.0
@@ -35,13 +35,13 @@ returns c =
     let past-lent = past-take.before.before.before.before in
     let past-rank = past-lent.before in
     let past-byte = past-rank.before.before in
-    let past-known = past-byte.before.before.before.before in
-    let a = past-known.before.args in
+    let past-known = past-byte.before.before in
+    let a = past-known.args in
     let l = past-lent.lent-n in
     let t = past-take.take-o in
     served-out a.memory.now a.key a.packet.now a.out.now l.result l.ensures.0 l.ensures.1.0 l.ensures.1.1 t.result
     t.new.0 t.new.1.1.1.0 t.ensures t.auto.1.1.1.0 (λ i. (past-known.slice_known-1.given i).fits) _ _
-    (told_by a.memory.now t.new.0 _ _ _ past-byte.byte_at-writes.ensures past-rank.latest_rank-latest.ensures c.before.changed-result.ensures)
+    (told_by a.memory.now t.new.0 _ _ _ past-byte.byte_at-writes.ensures past-rank.latest_rank-latest.ensures c.changed-result.ensures)
     c.pack.ensures
 
 pub serve_spec : {M : Type 1} → statement M

@@ -16,8 +16,8 @@ start-from-rows-of c = c.before.before.before.before.before
 
 returns : tie.Need-returns-then-rows-lt-ROWS
 returns c =
-    let a = c.before.before.before.before.before.args in
-    short-rows a.t a.length a.rows.now a.fragments.now a.out.now _ c.before.if-rows-lt-ROWS.true c.pack.ensures
+    let a = c.args in
+    short-rows a.t a.length a.rows.now a.fragments.now a.out.now _ c.if-rows-lt-ROWS.true c.pack.ensures
 
 rows-of-requires : tie.Need-rows_of-requires
 rows-of-requires c κs = omega (arith, c.if-rows-lt-ROWS.false)
@@ -39,7 +39,7 @@ returns-2 c =
     let at-rows-of = past.before.before in
     let a = (start-from-rows-of at-rows-of).args in
     weighed-answer a.t a.length a.rows.now a.fragments.now a.out.now past.restore_weighed-outcome.result _ _
-    (omega (arith, at-rows-of.before.if-rows-lt-ROWS.false))
+    (omega (arith, at-rows-of.if-rows-lt-ROWS.false))
     (past.restore_weighed-outcome.ensures
     ∙ ap (λ (r : List ℕ). weighed_step a.t a.length r a.fragments.now a.out.now) at-rows-of.rows_of_lem.ensures)
     c.pack-2.ensures

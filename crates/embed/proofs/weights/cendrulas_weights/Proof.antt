@@ -13,15 +13,15 @@ use Rattle.embed.proofs.weights.cendrulas_weights.Tie as tie
 
 returns : tie.Need-returns-then-used-lt-WIDTH
 returns c =
-    let a = c.before.before.before.before.before.args in
+    let a = c.args in
     weights_left a.t a.servers.now a.used.now a.rows.now 255 _
-    (no-used a.t a.servers.now a.used.now a.rows.now c.before.if-used-lt-WIDTH.true) (suc-ne-zero 254) c.pack.ensures
+    (no-used a.t a.servers.now a.used.now a.rows.now c.if-used-lt-WIDTH.true) (suc-ne-zero 254) c.pack.ensures
 
 returns-2 : tie.Need-returns-then-rows-lt-ROWS
 returns-2 c =
-    let a = c.before.before.before.before.before.before.args in
+    let a = c.args in
     weights_left a.t a.servers.now a.used.now a.rows.now 255 _
-    (no_rows a.t a.servers.now a.used.now a.rows.now (omega (arith, c.before.before.if-used-lt-WIDTH.false)) c.before.if-rows-lt-ROWS.true)
+    (no_rows a.t a.servers.now a.used.now a.rows.now (omega (arith, c.if-used-lt-WIDTH.false)) c.if-rows-lt-ROWS.true)
     (suc-ne-zero 254) c.pack-then-rows-lt-ROWS.ensures
 
 -- past the operation: what it made, and that the outputs have room. Places far back, each named once: the place, and from where it is seen.
@@ -37,25 +37,25 @@ returns-3 c =
     let a = (start-from-weights past).args in
     let made = past.weights-made in
     weights_left a.t a.servers.now a.used.now a.rows.now made.result.number _
-    (weights-refusal a.t a.servers.now made.result made.ensures a.used.now a.rows.now (omega (arith, past.before.before.if-used-lt-WIDTH.false))
-    (omega (arith, past.before.if-rows-lt-ROWS.false)))
-    c.before.if-number-ne0.true c.pack-then-number-ne0.ensures
+    (weights-refusal a.t a.servers.now made.result made.ensures a.used.now a.rows.now (omega (arith, past.if-used-lt-WIDTH.false))
+    (omega (arith, past.if-rows-lt-ROWS.false)))
+    c.if-number-ne0.true c.pack-then-number-ne0.ensures
 
 put-requires : tie.Need-put-requires
 put-requires c κs =
     let past = c.before.before.before.before.before in
     let a = (start-from-weights past).args in
     let made = past.weights-made in
-    let none = c.before.before.before.before.if-number-ne0.false in
+    let none = c.if-number-ne0.false in
     let most = count_most a.t a.servers.now made.result made.ensures none in
     let l : length made.result.servers ≡ width = search rules in
-    (omega (arith, most, l), omega (arith, most, past.before.before.if-used-lt-WIDTH.false))
+    (omega (arith, most, l), omega (arith, most, past.if-used-lt-WIDTH.false))
 
 mul-put : tie.Need-overflow_mul-k
 mul-put c =
     let past = weights-from-put c.before.before.before.before in
     let a = (start-from-weights past).args in
-    let none = c.before.before.before.before.before.before.before.before.before.if-number-ne0.false in
+    let none = c.if-number-ne0.false in
     omega (arith, square-most a.t a.servers.now past.weights-made.result past.weights-made.ensures none)
 
 put-requires-2 : tie.Need-put-requires-2
@@ -63,17 +63,17 @@ put-requires-2 c κs =
     let past = weights-from-put c.before.before.before.before in
     let a = (start-from-weights past).args in
     let made = past.weights-made in
-    let none = c.before.before.before.before.before.before.before.before.before.if-number-ne0.false in
+    let none = c.if-number-ne0.false in
     let most = square-most a.t a.servers.now made.result made.ensures none in
     let l : length made.result.rows ≡ rows_room = search rules in
-    (omega (arith, most, l), omega (arith, most, past.before.if-rows-lt-ROWS.left))
+    (omega (arith, most, l), omega (arith, most, past.if-rows-lt-ROWS.left))
 
 cast-pack : tie.Need-overflow_cast-k
 cast-pack c =
     let at-put = c.before.before.before.before.before.before.before in
     let past = weights-from-put at-put in
     let a = (start-from-weights past).args in
-    omega (arith, count_most a.t a.servers.now past.weights-made.result past.weights-made.ensures at-put.before.before.before.before.before.if-number-ne0.false)
+    omega (arith, count_most a.t a.servers.now past.weights-made.result past.weights-made.ensures at-put.if-number-ne0.false)
 
 returns-4 : tie.Need-returns
 returns-4 c =
@@ -83,7 +83,7 @@ returns-4 c =
     let a = (start-from-weights past).args in
     let made = past.weights-made in
     weights-given a.t a.servers.now a.used.now a.rows.now made.result made.ensures
-    at-put.before.before.before.before.before.if-number-ne0.false (omega (arith, past.before.before.if-used-lt-WIDTH.left)) (omega (arith, past.before.if-rows-lt-ROWS.left)) _ _
+    at-put.if-number-ne0.false (omega (arith, past.if-used-lt-WIDTH.left)) (omega (arith, past.if-rows-lt-ROWS.left)) _ _
     _ c.pack-2.ensures at-put.put.ensures at-put2.put-2.ensures
 
 pub cendrulas_weights_spec : {M : Type 1} → statement M

@@ -20,14 +20,14 @@ loop-holds : tie.Need-loop-i-init invariant-loop decreases-loop
 loop-holds c = (search rules, filled_none refl)
 
 shared-slice-read-rows : tie.Need-bounds-src-i invariant-loop decreases-loop
-shared-slice-read-rows c = omega (arith, c.before.before.before.requires)
+shared-slice-read-rows c = omega (arith, c.requires)
 
 loop-again : tie.Need-loop-i-preserved invariant-loop decreases-loop
-loop-again c = (search rules, filled_more c.before.before.loop-i.invariant.1 (omega arith) _ refl)
+loop-again c = (search rules, filled_more c.loop-i.invariant.1 (omega arith) _ refl)
 
 returns : tie.Need-returns invariant-loop decreases-loop
 returns c =
-    let l = c.before.loop-i in
+    let l = c.loop-i in
     let start = c.before.before in
     sym (take_is rows_room start.args.src.now l.rows start.requires l.invariant.1.size
     (λ i h. sym (l.invariant.1.each i (omega arith))))

@@ -16,7 +16,7 @@ use Rattle.erasure.proofs.choice.add_server.Tie as tie
 
 returns : tie.Need-returns-then-k-count
 returns c =
-    let args = c.before.before.before.args in
+    let args = c.args in
     let e : ltb args.c.count args.k ≡ false = le-ltb args.c.count args.k c.if-k-count.true in (
       search rules,
       sym (ap (λ t. more t (among args.s (take args.c.count args.c.servers)) (take args.c.count args.c.at) args.i) e),
@@ -25,9 +25,9 @@ returns c =
 
 returns-2 : tie.Need-returns-then-holds
 returns-2 c =
-    let args = c.before.before.before.before.before.args in
+    let args = c.args in
     let e : ltb args.c.count args.k ≡ true = lt-ltb args.c.count args.k (search rules) in
-    let f : among args.s (take args.c.count args.c.servers) ≡ true = sym c.before.holds.ensures ∙ c.if-holds.true in (
+    let f : among args.s (take args.c.count args.c.servers) ≡ true = sym c.holds.ensures ∙ c.if-holds.true in (
       search rules,
       sym (ap₂ (λ t s. more t s (take args.c.count args.c.at) args.i) e f),
       sym (ap₂ (λ t s. more t s (take args.c.count args.c.servers) args.s) e f),
@@ -35,9 +35,9 @@ returns-2 c =
 
 returns-3 : tie.Need-returns
 returns-3 c =
-    let args = c.before.before.before.before.before.args in
+    let args = c.args in
     let e : ltb args.c.count args.k ≡ true = lt-ltb args.c.count args.k (search rules) in
-    let f : among args.s (take args.c.count args.c.servers) ≡ false = sym c.before.holds.ensures ∙ c.if-holds.false in
+    let f : among args.s (take args.c.count args.c.servers) ≡ false = sym c.holds.ensures ∙ c.if-holds.false in
     let la : length args.c.at ≡ width = search rules in
     let lp : length args.c.servers ≡ width = search rules in (
       search rules,

@@ -28,16 +28,16 @@ loop-holds c = (search rules, refl, record { room = search rules; places_is = re
 cast-add-server : tie.Need-overflow_cast-servers invariant-loop decreases-loop
 cast-add-server c =
     let start = c.before.before.before.before in
-    let few = start.requires.1 c.before.before.loop-i.i (search rules) in
+    let few = start.requires.1 c.loop-i.i (search rules) in
     omega (arith, few)
 
 add-server-requires : tie.Need-add_server-d-requires invariant-loop decreases-loop
-add-server-requires c κs = (c.before.before.loop-i.invariant.2.room, search rules)
+add-server-requires c κs = (c.loop-i.invariant.2.room, search rules)
 
 loop-again : tie.Need-loop-i-preserved invariant-loop decreases-loop
 unfolding picked
 loop-again c =
-    let at = c.before.before.before.loop-i in
+    let at = c.loop-i in
     let start = c.before.before.before.before.before in
     let bs = start.args.servers.now in
     let k = start.args.k in
@@ -68,7 +68,7 @@ loop-again c =
 returns : tie.Need-returns invariant-loop decreases-loop
 unfolding first_different
 returns c =
-    let at = c.before.loop-i in
+    let at = c.loop-i in
     let start = c.before.before.before in
     let bs = start.args.servers.now in
     subst (λ (n : ℕ). Holds start.args.k bs (picked start.args.k bs n) at.c) (omega arith) at.invariant.2

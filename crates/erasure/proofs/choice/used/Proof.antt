@@ -18,7 +18,7 @@ returns : tie.Need-returns
 returns c =
     let start = c.before.before.before.before.before in
     let l : length start.args.c.servers ≡ width = search rules in
-    taken width start.args.c.count start.args.c.servers (replicate width 0) _ refl start.requires (omega (arith, l, start.requires)) c.before.copy.ensures
+    taken width start.args.c.count start.args.c.servers (replicate width 0) _ refl start.requires (omega (arith, l, start.requires)) c.copy.ensures
 
 pub used_spec : {M : Type 1} → statement M
 used_spec = tie.close (tie.spec (λ c. search rules) (λ c. search rules) copy-requires returns)

@@ -23,26 +23,26 @@ loop-again : tie.Need-loop-m-preserved invariant-loop decreases-loop
 loop-again c =
     let at-loop = c.before.before.before.before.before in
     let l = at-loop.loop-m in
-    let args = at-loop.before.before.before.args in
+    let args = at-loop.args in
     let points = args.points.now in
     let x = get_or points args.j 0 in (
       search rules,
-      c.before.before.mul-top.ensures ∙ product_to_more l.m (factor_at points args.j args.z) l.top
-          c.before.before.before.factor.result l.invariant.1 c.before.before.before.factor.ensures,
-      c.mul-own.ensures ∙ product_to_more l.m (factor_at points args.j x) l.own c.before.factor-in-loop-m.result l.invariant.2
-          c.before.factor-in-loop-m.ensures,
+      c.mul-top.ensures ∙ product_to_more l.m (factor_at points args.j args.z) l.top
+          c.factor.result l.invariant.1 c.factor.ensures,
+      c.mul-own.ensures ∙ product_to_more l.m (factor_at points args.j x) l.own c.factor-in-loop-m.result l.invariant.2
+          c.factor-in-loop-m.ensures,
     )
 
 returns : tie.Need-returns invariant-loop decreases-loop
 unfolding direct_at
 returns c =
-    let l = c.before.before.before.loop-m in
-    let args = c.before.before.before.before.before.before.args in
+    let l = c.loop-m in
+    let args = c.args in
     let points = args.points.now in
     let e : l.m ≡ args.k = omega arith in
     c.mul-top.ensures
     ∙ ap₂ times (l.invariant.1 ∙ ap (λ (n : ℕ). product_to n (factor_at points args.j args.z)) e)
-    (c.before.inverse.ensures ∙ ap inverse (l.invariant.2 ∙ ap (λ (n : ℕ). product_to n (factor_at points args.j (get_or points args.j 0))) e))
+    (c.inverse.ensures ∙ ap inverse (l.invariant.2 ∙ ap (λ (n : ℕ). product_to n (factor_at points args.j (get_or points args.j 0))) e))
 
 pub weight_spec : {M : Type 1} → statement M
 weight_spec = tie.close (tie.spec invariant-loop decreases-loop (λ c. search rules) loop-holds (λ c κs. search rules) (λ c κs. search rules) (λ c κs. search rules)

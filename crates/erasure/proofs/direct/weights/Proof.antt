@@ -18,10 +18,10 @@ loop-holds : tie.Need-loop-j-init invariant-loop decreases-loop
 loop-holds c = (search rules, filled_none refl)
 
 loop-again : tie.Need-loop-j-preserved invariant-loop decreases-loop
-loop-again c = (search rules, filled_more c.before.before.loop-j.invariant.1 (omega arith) _ c.weight.ensures)
+loop-again c = (search rules, filled_more c.loop-j.invariant.1 (omega arith) _ c.weight.ensures)
 
 returns : tie.Need-returns invariant-loop decreases-loop
-returns c j h = c.before.loop-j.invariant.1.each j (omega arith)
+returns c j h = c.loop-j.invariant.1.each j (omega arith)
 
 pub weights_spec : {M : Type 1} → statement M
 weights_spec = tie.close (tie.spec invariant-loop decreases-loop loop-holds (λ c κs. search rules) (λ c. search rules) (λ c. search rules) (λ c. search rules)

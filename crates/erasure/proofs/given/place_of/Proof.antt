@@ -22,25 +22,25 @@ loop-holds c = (search rules, λ i h. absurd (omega arith))
 
 returns : tie.Need-returns-then-given-j invariant-loop decreases-loop
 returns c =
-    let a = c.before.before.before.args in
-    let j = c.before.before.loop-j.j in
+    let a = c.args in
+    let j = c.loop-j.j in
     let h : j < a.k = search rules in
     let l : length a.given ≡ width = search rules in
     let full : length (take a.k a.given) ≡ a.k = length-take-le a.k a.given (omega arith) in
     sym (place_found a.z (take a.k a.given) j (omega arith)
-    (λ i b e. c.before.before.loop-j.invariant.1 i b (sym (get_or-take a.k a.given i 0 (omega arith)) ∙ e))
+    (λ i b e. c.loop-j.invariant.1 i b (sym (get_or-take a.k a.given i 0 (omega arith)) ∙ e))
     (get_or-take a.k a.given j 0 h ∙ c.if-given-j.true))
 
 loop-again : tie.Need-loop-j-preserved invariant-loop decreases-loop
-loop-again c = (search rules, below_more _ _ c.before.before.loop-j.invariant.1 c.if-given-j.false)
+loop-again c = (search rules, below_more _ _ c.loop-j.invariant.1 c.if-given-j.false)
 
 returns-2 : tie.Need-returns invariant-loop decreases-loop
 returns-2 c =
-    let a = c.before.before.args in
+    let a = c.args in
     let l : length a.given ≡ width = search rules in
     let full : length (take a.k a.given) ≡ a.k = length-take-le a.k a.given (omega arith) in
     let none = place_none a.z (take a.k a.given)
-    (λ i h e. let b : i < a.k = omega arith in c.before.loop-j.invariant.1 i (omega arith) (sym (get_or-take a.k a.given i 0 b) ∙ e)) in
+    (λ i h e. let b : i < a.k = omega arith in c.loop-j.invariant.1 i (omega arith) (sym (get_or-take a.k a.given i 0 b) ∙ e)) in
     sym (none ∙ full)
 
 pub place_of_spec : {M : Type 1} → statement M

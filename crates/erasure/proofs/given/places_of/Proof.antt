@@ -20,10 +20,10 @@ loop-holds : tie.Need-loop-i-init invariant-loop decreases-loop
 loop-holds c = (search rules, filled_none refl)
 
 loop-again : tie.Need-loop-i-preserved invariant-loop decreases-loop
-loop-again c = (search rules, filled_more c.before.before.before.loop-i.invariant.1 (omega arith) _ c.place_of.ensures)
+loop-again c = (search rules, filled_more c.loop-i.invariant.1 (omega arith) _ c.place_of.ensures)
 
 returns : tie.Need-returns invariant-loop decreases-loop
-returns c j h = c.before.loop-i.invariant.1.each j (omega arith)
+returns c j h = c.loop-i.invariant.1.each j (omega arith)
 
 pub places_of_spec : {M : Type 1} → statement M
 places_of_spec = tie.close (tie.spec invariant-loop decreases-loop loop-holds (λ c. search rules) (λ c κs. search rules) (λ c. search rules) (λ c. search rules)

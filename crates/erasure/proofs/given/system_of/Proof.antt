@@ -7,12 +7,12 @@ use Rattle.erasure.proofs.given.system_of.Tie as tie
 
 returns : tie.Need-returns-then-all_given
 returns c =
-    let given = sym c.before.all_given.ensures ∙ c.if-all_given.true in
+    let given = sym c.all_given.ensures ∙ c.if-all_given.true in
     record { unused = λ e. refl; solved = λ e. absurd (true≢false (sym given ∙ e)) }
 
 returns-2 : tie.Need-returns
 returns-2 c =
-    let missing = sym c.before.before.all_given.ensures ∙ c.before.if-all_given.false in
+    let missing = sym c.all_given.ensures ∙ c.if-all_given.false in
     record { unused = λ e. absurd (true≢false (sym e ∙ missing)); solved = λ e. c.solve.ensures }
 
 pub system_of_spec : {M : Type 1} → statement M

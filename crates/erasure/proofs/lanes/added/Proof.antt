@@ -24,15 +24,15 @@ loop-holds : tie.Need-loop-i-init invariant-loop decreases-loop
 loop-holds c = (search rules, filled_none refl)
 
 loop-again : tie.Need-loop-i-preserved invariant-loop decreases-loop
-loop-again c = (search rules, filled_more c.before.loop-i.invariant.1 (omega arith) _ refl)
+loop-again c = (search rules, filled_more c.loop-i.invariant.1 (omega arith) _ refl)
 
 returns : tie.Need-returns invariant-loop decreases-loop
 returns c i h =
-    let args = c.before.before.before.args in
+    let args = c.args in
     let x = get_or args.x i 0 in
     let f : Fits w8 x = search rules in
-    c.before.loop-i.invariant.1.each i (omega arith)
-    ∙ ap (bit_xor (get_or args.sum i 0)) (ap (bit_and x) c.before.before.mask-m.ensures ∙ masked (bit_of args.w args.b) x
+    c.loop-i.invariant.1.each i (omega arith)
+    ∙ ap (bit_xor (get_or args.sum i 0)) (ap (bit_and x) c.mask-m.ensures ∙ masked (bit_of args.w args.b) x
     (bit-lt args.w args.b) f.fits)
 
 pub added_spec : {M : Type 1} → statement M

@@ -25,8 +25,8 @@ loop-holds c = (search rules, λ i h. sym (ap (bit_xor (get_or c.doubled-out.res
 loop-again : tie.Need-loop-j-preserved invariant-loop decreases-loop
 loop-again c =
     let at-doubled = c.before.before.before.before in
-    let l = c.before.before.before.loop-j in
-    let args = at-doubled.before.args in
+    let l = c.loop-j in
+    let args = at-doubled.args in
     let begun = at-doubled.doubled-out.result in
     let term : ℕ → ℕ → ℕ = λ i m. bit_of (get_or args.weights m 0) args.b * entry args.lanes.now m i in (
       search rules,
@@ -39,10 +39,10 @@ loop-again c =
 
 returns : tie.Need-returns invariant-loop decreases-loop
 returns c i h =
-    let l = c.before.loop-j in
-    let args = c.before.before.before.args in
+    let l = c.loop-j in
+    let args = c.args in
     let term : ℕ → ℕ = λ m. bit_of (get_or args.weights m 0) args.b * entry args.lanes.now m i in
-    l.invariant.1 i h ∙ ap₂ (λ (x n : ℕ). bit_xor x (sum_to n term)) (c.before.before.doubled-out.ensures i h) (omega arith)
+    l.invariant.1 i h ∙ ap₂ (λ (x n : ℕ). bit_xor x (sum_to n term)) (c.doubled-out.ensures i h) (omega arith)
 
 pub bit_step_spec : {M : Type 1} → statement M
 bit_step_spec = tie.close (tie.spec invariant-loop decreases-loop (λ c κs. search rules) loop-holds (λ c. search rules) (λ c. search rules) (λ c. search rules)

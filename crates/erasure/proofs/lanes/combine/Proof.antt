@@ -21,7 +21,7 @@ decreases-loop weights src out₀ at m starts k lanes₀ q₀ out lanes q = m - 
 
 -- there is a run
 returns : tie.Need-returns-then-k-eq0 invariant-loop decreases-loop
-returns c = absurd (omega (arith, c.if-k-eq0.true, c.before.before.before.before.requires.3))
+returns c = absurd (omega (arith, c.if-k-eq0.true, c.requires.3))
 
 loop-holds : tie.Need-loop-q-init invariant-loop decreases-loop
 loop-holds c = (search rules, search rules, written_none _ _ _)
@@ -40,10 +40,10 @@ lane-sum-requires : tie.Need-lane_sum-sum-requires invariant-loop decreases-loop
 lane-sum-requires c κs =
     let at-loop = at-loop-from-lanes c.before.before in
     let src = at-loop.before.before.before.before in
-    let starts = src.before.args.runs.starts in (
+    let starts = src.args.runs.starts in (
       search rules,
       λ j i hj hi.
-          subst (λ (x : ℕ). x < 256) (sym (c.before.gather.ensures.0 j hj i hi))
+          subst (λ (x : ℕ). x < 256) (sym (c.gather.ensures.0 j hj i hi))
           (src.shared_slice_known-1.given (get_or starts j 0 + (at-loop.loop-q.q + i))).fits,
     )
 
@@ -64,7 +64,7 @@ store-requires c κs =
     let at-loop = at-loop-from-lane-sum at-lane-sum in
     let start = at-loop.before.before.before.before.before in
     let l = at-loop.loop-q in
-    let n = at-lane-sum.before.before.before.before.at_most_lane-n in
+    let n = at-lane-sum.at_most_lane-n in
     (n.ensures.1, omega (arith, l.invariant.2.long, start.requires.2, n.ensures.0))
 
 abbrev lane-sum-from-slice-known2 : tie.After-slice_known-in-loop-q-1 invariant-loop decreases-loop → tie.After-lane_sum-sum invariant-loop decreases-loop
@@ -76,12 +76,12 @@ add-q c =
     let at-loop = at-loop-from-lane-sum at-lane-sum in
     let start = at-loop.before.before.before.before.before in
     let l = at-loop.loop-q in
-    let n = at-lane-sum.before.before.before.before.at_most_lane-n in
+    let n = at-lane-sum.at_most_lane-n in
     omega (arith, n.ensures.0)
 
 loop-less : tie.Need-loop-q-smaller invariant-loop decreases-loop
 loop-less c =
-    let n = (lane-sum-from-slice-known2 c).before.before.before.before.at_most_lane-n in
+    let n = (lane-sum-from-slice-known2 c).at_most_lane-n in
     let h : 0 < n.result = n.ensures.2 (omega arith) in
     omega (arith, n.ensures.0, h)
 
@@ -90,10 +90,10 @@ unfolding sum_at
 loop-again c =
     let at-lane-sum = lane-sum-from-slice-known2 c in
     let at-loop = at-loop-from-lane-sum at-lane-sum in
-    let args = at-loop.before.before.before.before.before.args in
+    let args = at-loop.args in
     let l = at-loop.loop-q in
-    let n = at-lane-sum.before.before.before.before.at_most_lane-n in
-    let lanes = at-lane-sum.before.before.gather in
+    let n = at-lane-sum.at_most_lane-n in
+    let lanes = at-lane-sum.gather in
     let sum = at-lane-sum.lane_sum-sum in
     let src = args.src.now in
     let old = args.out.now in
@@ -106,16 +106,16 @@ loop-again c =
     ∙ sum_to_ext runs.count (λ j. times (entry lanes.last.0 j i) (get_or args.weights j 0))
     (λ j. times (byte_at src runs.starts (l.q + i) j) (get_or args.weights j 0))
     (λ j hj. ap (λ (x : ℕ). times x (get_or args.weights j 0)) (lanes.ensures.0 j hj i b)))
-    c.before.before.store.ensures in
+    c.store.ensures in
     (omega (arith, n.ensures.0), lanes.ensures.1, written_on old l.out _ args.at l.q n.result g l.invariant.2 piece)
 
 same_length : tie.Need-shape_of-out invariant-loop decreases-loop
-same_length c = c.before.loop-q.invariant.2.long
+same_length c = c.loop-q.invariant.2.long
 
 returns-2 : tie.Need-returns invariant-loop decreases-loop
 returns-2 c =
-    let l = c.before.loop-q in
-    let args = c.before.before.before.before.before.before.args in
+    let l = c.loop-q in
+    let args = c.args in
     let g : ℕ → ℕ = sum_at args.runs.count (λ j. get_or args.weights j 0) args.src.now args.runs.starts in
     subst (λ (n : ℕ). RunWritten args.out.now l.out args.at n g) (omega arith) l.invariant.2
 

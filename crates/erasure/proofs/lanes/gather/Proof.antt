@@ -19,19 +19,19 @@ abbrev decreases-loop : tie.decreases-loop-j
 decreases-loop out₀ src q k starts j₀ out j = k - j
 
 loop-holds : tie.Need-loop-j-init invariant-loop decreases-loop
-loop-holds c = (search rules, filled_none c.before.requires.2)
+loop-holds c = (search rules, filled_none c.requires.2)
 
 add-lane-at : tie.Need-overflow_add-starts invariant-loop decreases-loop
-add-lane-at c = let h : c.before.loop-j.j < c.before.before.before.args.k = search rules in omega
-    (arith, c.before.before.before.requires.1 c.before.loop-j.j h)
+add-lane-at c = let h : c.loop-j.j < c.args.k = search rules in omega
+    (arith, c.requires.1 c.loop-j.j h)
 
 lane-at-requires : tie.Need-lane_at-requires invariant-loop decreases-loop
-lane-at-requires c κs = c.before.before.before.requires.1 c.before.loop-j.j (omega arith)
+lane-at-requires c κs = c.requires.1 c.loop-j.j (omega arith)
 
 loop-again : tie.Need-loop-j-preserved invariant-loop decreases-loop
 loop-again c =
-    let l = c.before.before.loop-j in
-    let args = c.before.before.before.before.args in
+    let l = c.loop-j in
+    let args = c.args in
     let src = args.src.now in (
       search rules,
       filled_more l.invariant.1 (omega arith) _ (λ i h. c.lane_at.ensures i h ∙ ap (λ (x : ℕ). get_or src x 0)
@@ -39,7 +39,7 @@ loop-again c =
     )
 
 returns : tie.Need-returns invariant-loop decreases-loop
-returns c = (λ j h. c.before.loop-j.invariant.1.each j (omega arith), c.before.loop-j.invariant.1.size)
+returns c = (λ j h. c.loop-j.invariant.1.each j (omega arith), c.loop-j.invariant.1.size)
 
 pub gather_spec : {M : Type 1} → statement M
 gather_spec = tie.close (tie.spec invariant-loop decreases-loop loop-holds (λ c. search rules) (λ c. search rules) add-lane-at lane-at-requires (λ c. search rules)

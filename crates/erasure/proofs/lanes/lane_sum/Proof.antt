@@ -25,7 +25,7 @@ loop-holds c = (search rules, λ i h. get_or-replicate lane i 0 0 h ∙ sym (sum
 
 loop-again : tie.Need-loop-n-preserved invariant-loop decreases-loop
 loop-again c =
-    let l = c.before.before.loop-n in
+    let l = c.loop-n in
     let start = c.before.before.before in
     let args = start.args in
     let b : ℕ = 7 - l.n in
@@ -46,8 +46,8 @@ loop-again c =
 returns : tie.Need-returns invariant-loop decreases-loop
 unfolding times
 returns c i h =
-    let l = c.before.loop-n in
-    let args = c.before.before.args in
+    let l = c.loop-n in
+    let args = c.args in
     let lanes = args.lanes.now in
     let e : l.n ≡ 8 = omega arith in
     subst (λ (n : ℕ). get_or l.out i 0 ≡ sum_to args.k (λ j. times_bits n (entry lanes j i) (get_or args.weights j 0 / 2 ^ (8 - n)))) e

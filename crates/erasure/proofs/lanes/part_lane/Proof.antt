@@ -19,10 +19,10 @@ loop-holds : tie.Need-loop-i-init invariant-loop decreases-loop
 loop-holds c = (search rules, filled_none refl)
 
 loop-again : tie.Need-loop-i-preserved invariant-loop decreases-loop
-loop-again c = (search rules, filled_more c.before.before.loop-i.invariant.1 (omega arith) _ c.byte_at.ensures)
+loop-again c = (search rules, filled_more c.loop-i.invariant.1 (omega arith) _ c.byte_at.ensures)
 
 returns : tie.Need-returns invariant-loop decreases-loop
-returns c i h = c.before.loop-i.invariant.1.each i (omega arith)
+returns c i h = c.loop-i.invariant.1.each i (omega arith)
 
 pub part_lane_spec : {M : Type 1} → statement M
 part_lane_spec = tie.close (tie.spec invariant-loop decreases-loop loop-holds (λ c. search rules) (λ c κs. search rules) (λ c. search rules) (λ c. search rules)

@@ -20,8 +20,8 @@ loop-holds c = (search rules, written_none _ _ _)
 
 loop-again : tie.Need-loop-i-preserved invariant-loop decreases-loop
 loop-again c =
-    let l = c.before.loop-i in
-    let args = c.before.before.args in (
+    let l = c.loop-i in
+    let args = c.args in (
       search rules,
       written_more args.out.now l.out args.at l.i (λ j. get_or args.x j 0) (get_or args.x l.i 0)
           (omega (arith, l.invariant.1.long)) refl l.invariant.1,
@@ -29,8 +29,8 @@ loop-again c =
 
 returns : tie.Need-returns invariant-loop decreases-loop
 returns c =
-    let l = c.before.loop-i in
-    let args = c.before.before.args in
+    let l = c.loop-i in
+    let args = c.args in
     subst (λ (n : ℕ). RunWritten args.out.now l.out args.at n (λ j. get_or args.x j 0)) (omega arith) l.invariant.1
 
 pub store_spec : {M : Type 1} → statement M

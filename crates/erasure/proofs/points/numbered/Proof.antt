@@ -21,11 +21,11 @@ loop-holds : tie.Need-loop-j-init invariant-loop decreases-loop
 loop-holds c = (search rules, refl, filled_none refl)
 
 loop-again : tie.Need-loop-j-preserved invariant-loop decreases-loop
-loop-again c = let l = c.before.loop-j in (search rules, omega (arith, l.invariant.1), filled_more l.invariant.2 (omega arith) _ l.invariant.1)
+loop-again c = let l = c.loop-j in (search rules, omega (arith, l.invariant.1), filled_more l.invariant.2 (omega arith) _ l.invariant.1)
 
 returns : tie.Need-returns invariant-loop decreases-loop
 returns c =
-    let l = c.before.loop-j in
+    let l = c.loop-j in
     ext_get_or 0 l.out (up_to most_servers) (l.invariant.2.size ∙ sym (up_to-length most_servers))
     (λ i h. let b : i < most_servers = omega (arith, l.invariant.2.size) in
     l.invariant.2.each i (omega arith) ∙ sym (up_to_at most_servers i b))

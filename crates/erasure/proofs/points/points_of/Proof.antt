@@ -21,23 +21,23 @@ loop-holds c = (search rules, filled_none refl)
 
 sub_out : tie.Need-overflow_sub-out invariant-loop decreases-loop
 sub_out c =
-    let j = c.before.loop-j.j in
-    let h : j < c.before.before.args.k = search rules in
-    (c.before.before.requires.1 j h).0
+    let j = c.loop-j.j in
+    let h : j < c.args.k = search rules in
+    (c.requires.1 j h).0
 
 shared-slice-read-out : tie.Need-bounds-points-i invariant-loop decreases-loop
 shared-slice-read-out c =
-    let j = c.before.before.loop-j.j in
-    let h : j < c.before.before.before.args.k = search rules in
-    let r = c.before.before.before.requires.1 j h in
+    let j = c.loop-j.j in
+    let h : j < c.args.k = search rules in
+    let r = c.requires.1 j h in
     omega (arith, r.0, r.1)
 
 loop-again : tie.Need-loop-j-preserved invariant-loop decreases-loop
 unfolding point_of
-loop-again c = (search rules, filled_more c.before.before.loop-j.invariant.1 (omega arith) _ refl)
+loop-again c = (search rules, filled_more c.loop-j.invariant.1 (omega arith) _ refl)
 
 returns : tie.Need-returns invariant-loop decreases-loop
-returns c j h = c.before.loop-j.invariant.1.each j (omega arith)
+returns c j h = c.loop-j.invariant.1.each j (omega arith)
 
 pub points_of_spec : {M : Type 1} → statement M
 points_of_spec = tie.close (tie.spec invariant-loop decreases-loop loop-holds (λ c. search rules) (λ c. search rules) sub_out shared-slice-read-out

@@ -15,13 +15,13 @@ use Rattle.erasure.proofs.refusals.fragment_refusal.Tie as tie
 
 -- ---- what the tests that were passed say
 
-faults-in : (c : tie.Else-outside) → not (within 1 top_faults c.before.before.args.t) ≡ false
-faults-in c = sym c.before.outside.ensures ∙ c.if-outside.false
+faults-in : (c : tie.Else-outside) → not (within 1 top_faults c.args.t) ≡ false
+faults-in c = sym c.outside.ensures ∙ c.if-outside.false
 
-server-tested : (c : tie.After-outside-2) → let args = c.before.before.before.before.args in not
+server-tested : (c : tie.After-outside-2) → let args = c.args in not
     (within 1 (shelf args.t).servers args.server) ≡ c.outside-2.result
 server-tested c =
-    ap (λ (s : ℕ). not (within 1 s c.before.before.before.before.args.server)) (sym c.before.servers_of.ensures) ∙ sym
+    ap (λ (s : ℕ). not (within 1 s c.args.server)) (sym c.servers_of.ensures) ∙ sym
     c.outside-2.ensures
 
 -- Places far back, each named once: the place, and from where it is seen.
@@ -29,26 +29,26 @@ abbrev else1-from-else2 : tie.Else-outside-2 → tie.Else-outside
 else1-from-else2 c = c.before.before.before
 
 -- past two tests, the number is that of the last
-last-test : (c : tie.Else-outside-2) (b : Bool) → let args = (else1-from-else2 c).before.before.args in ltb top_length args.n ≡ b
+last-test : (c : tie.Else-outside-2) (b : Bool) → let args = (else1-from-else2 c).args in ltb top_length args.n ≡ b
     → fragment_refusal_def args.t args.server args.n ≡ cond b 6 0
 last-test c b =
     let at-else1 = else1-from-else2 c in
-    let args = at-else1.before.before.args in
+    let args = at-else1.args in
     fragment_tests args.t args.server args.n false false b (faults-in at-else1) (server-tested c.before ∙ c.if-outside-2.false)
 
 -- ---- the needs
 
 returns : tie.Need-returns-then-outside
 returns c =
-    let args = c.before.before.args in
-    sym (fragment_tests args.t args.server args.n true _ _ (sym c.before.outside.ensures ∙ c.if-outside.true) refl refl)
+    let args = c.args in
+    sym (fragment_tests args.t args.server args.n true _ _ (sym c.outside.ensures ∙ c.if-outside.true) refl refl)
 
 servers-of-requires : tie.Need-servers_of-requires
-servers-of-requires c κs = (within_bounds 1 top_faults c.before.before.args.t (not-false _ (faults-in c))).1
+servers-of-requires c κs = (within_bounds 1 top_faults c.args.t (not-false _ (faults-in c))).1
 
 returns-2 : tie.Need-returns-then-outside-2
 returns-2 c =
-    let args = c.before.before.before.before.before.args in
+    let args = c.args in
     sym (fragment_tests args.t args.server args.n false true _ (faults-in c.before.before.before)
     (server-tested c.before ∙ c.if-outside-2.true) refl)
 

@@ -7,16 +7,16 @@ use Rattle.erasure.proofs.refusals.miscounted.Statement.{statement}
 use Rattle.erasure.proofs.refusals.miscounted.Tie as tie
 
 returns : tie.Need-returns-then-f-eq0
-returns c = none-counted c.before.args.given c.before.args.f c.before.args.count c.if-f-eq0.true
+returns c = none-counted c.args.given c.args.f c.args.count c.if-f-eq0.true
 
 returns-2 : tie.Need-returns-then-given-f-ne0
 returns-2 c =
-    let args = c.before.before.args in
+    let args = c.args in
     sym (ap not (not-whole args.given args.f args.count c.if-given-f-ne0.true))
 
 returns-3 : tie.Need-returns
 returns-3 c =
-    let args = c.before.before.args in
+    let args = c.args in
     quotient args.given args.f args.count (search rules) c.if-given-f-ne0.false
 
 pub miscounted_spec : {M : Type 1} → statement M

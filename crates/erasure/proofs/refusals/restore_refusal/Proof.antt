@@ -22,22 +22,22 @@ use Rattle.erasure.proofs.refusals.restore_refusal.Tie as tie
 
 module _ (c : tie.Else-outside) where
   abbrev t : ℕ
-  t = c.before.before.before.args.t
+  t = c.args.t
 
   abbrev n : ℕ
-  n = c.before.before.before.args.n
+  n = c.args.n
 
   abbrev servers : List ℕ
-  servers = c.before.before.before.args.servers.now
+  servers = c.args.servers.now
 
   abbrev given : ℕ
-  given = c.before.before.before.args.given
+  given = c.args.given
 
   abbrev room : ℕ
-  room = c.before.before.before.args.room
+  room = c.args.room
 
   faults-in : not (within 1 top_faults t) ≡ false
-  faults-in = sym c.before.outside.ensures ∙ c.if-outside.false
+  faults-in = sym c.outside.ensures ∙ c.if-outside.false
 
   faults : (1 ≤ t) × (t ≤ top_faults)
   faults = within_bounds 1 top_faults t (not-false _ faults-in)
@@ -45,7 +45,7 @@ module _ (c : tie.Else-outside) where
 servers-tested : (c : tie.After-server_outside) → let p = c.before.before in not (each (within 1 (shelf (t p)).servers) (servers p)) ≡
     c.server_outside.result
 servers-tested c =
-    ap (λ (s : ℕ). not (each (within 1 s) (servers c.before.before))) (sym c.before.servers_of.ensures) ∙ sym c.server_outside.ensures
+    ap (λ (s : ℕ). not (each (within 1 s) (servers c.before.before))) (sym c.servers_of.ensures) ∙ sym c.server_outside.ensures
 
 -- past two tests, the number is that of the other three
 module _ (c : tie.Else-server_outside) where
@@ -75,18 +75,18 @@ last-test : (c : tie.After-miscounted) (b : Bool) → c.miscounted.result ≡ b
 last-test c b e =
     let s = second c.before.before in
     let p = past s in
-    let f : c.before.size.result ≡ fragment_size_def (shelf (t p)).threshold (n p) =
-    c.before.size.ensures ∙ ap (λ (k : ℕ). fragment_size_def k (n p)) c.before.before.threshold_of.ensures in
-    other-tests s false false b (length-in c.before.before.before.before) (le-ltb (room p) content_room c.before.before.before.if-room-lt-CONTENT_ROOM.false)
+    let f : c.size.result ≡ fragment_size_def (shelf (t p)).threshold (n p) =
+    c.size.ensures ∙ ap (λ (k : ℕ). fragment_size_def k (n p)) c.threshold_of.ensures in
+    other-tests s false false b (length-in c.before.before.before.before) (le-ltb (room p) content_room c.if-room-lt-CONTENT_ROOM.false)
     (ap (λ (x : ℕ). not (eqb (given p) (length (servers p) * x))) (sym f) ∙ sym c.miscounted.ensures ∙ e)
 
 -- ---- the needs
 
 returns : tie.Need-returns-then-outside
 returns c =
-    let args = c.before.before.before.args in
+    let args = c.args in
     let ss = args.servers.now in
-    sym (argument_tests args.t args.n ss args.given args.room true _ _ _ _ (sym c.before.outside.ensures ∙ c.if-outside.true) refl refl
+    sym (argument_tests args.t args.n ss args.given args.room true _ _ _ _ (sym c.outside.ensures ∙ c.if-outside.true) refl refl
     refl refl)
 
 servers-of-requires : tie.Need-servers_of-requires
@@ -110,7 +110,7 @@ threshold-of-requires : tie.Need-threshold_of-requires
 threshold-of-requires c κs = (faults (past c.before.before)).1
 
 size-requires : tie.Need-size-requires
-size-requires c κs = (omega (arith, threshold-are c), omega (arith, threshold-are c, (faults (past (second c))).1), c.before.before.if-n-gt-TOP_LENGTH.false)
+size-requires c κs = (omega (arith, threshold-are c), omega (arith, threshold-are c, (faults (past (second c))).1), c.if-n-gt-TOP_LENGTH.false)
 
 returns-5 : tie.Need-returns-then-miscounted
 returns-5 c = sym (last-test c.before true c.if-miscounted.true)

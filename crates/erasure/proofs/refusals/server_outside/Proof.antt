@@ -24,26 +24,26 @@ loop-holds c = (search rules, λ j h. absurd (omega arith))
 returns : tie.Need-returns-then-outside invariant-loop decreases-loop
 returns c =
     let at-loop = c.before.before.before.before in
-    let args = at-loop.before.before.args in
+    let args = at-loop.args in
     let i = at-loop.loop-i.i in
     let ss = args.servers.now in
-    sym (ap not (each_fails (within 1 args.most) ss i (search rules) (not-true _ (sym c.before.outside.ensures ∙ c.if-outside.true))))
+    sym (ap not (each_fails (within 1 args.most) ss i (search rules) (not-true _ (sym c.outside.ensures ∙ c.if-outside.true))))
 
 loop-again : tie.Need-loop-i-preserved invariant-loop decreases-loop
 loop-again c =
     let at-loop = c.before.before.before.before in
-    let args = at-loop.before.before.args in
+    let args = at-loop.args in
     let l = at-loop.loop-i in
     let ss = args.servers.now in (
       search rules,
       below_more (λ (j : ℕ). within 1 args.most (get_or ss j 0) ≡ true) l.i l.invariant.1
-          (not-false _ (sym c.before.outside.ensures ∙ c.if-outside.false)),
+          (not-false _ (sym c.outside.ensures ∙ c.if-outside.false)),
     )
 
 returns-2 : tie.Need-returns invariant-loop decreases-loop
 returns-2 c =
-    let args = c.before.before.before.args in
-    sym (ap not (each_holds (within 1 args.most) args.servers.now (λ i h. c.before.loop-i.invariant.1 i (omega arith))))
+    let args = c.args in
+    sym (ap not (each_holds (within 1 args.most) args.servers.now (λ i h. c.loop-i.invariant.1 i (omega arith))))
 
 pub server_outside_spec : {M : Type 1} → statement M
 server_outside_spec = tie.close (tie.spec invariant-loop decreases-loop loop-holds (λ c. search rules) (λ c. search rules) (λ c κs. search rules) returns

@@ -12,8 +12,8 @@ use Rattle.erasure.proofs.WeightTests.{server_tests}
 use Rattle.erasure.proofs.refusals.weights_refusal.Statement.{statement}
 use Rattle.erasure.proofs.refusals.weights_refusal.Tie as tie
 
-faults-in : (c : tie.Else-outside) → not (within 1 top_faults c.before.before.before.args.t) ≡ false
-faults-in c = sym c.before.outside.ensures ∙ c.if-outside.false
+faults-in : (c : tie.Else-outside) → not (within 1 top_faults c.args.t) ≡ false
+faults-in c = sym c.outside.ensures ∙ c.if-outside.false
 
 -- Places far back, each named once: the place, and from where it is seen.
 abbrev start-from-server-outside : tie.After-server_outside → tie.Start
@@ -22,16 +22,16 @@ start-from-server-outside c = c.before.before.before.before.before
 servers-tested : (c : tie.After-server_outside) → let args = (start-from-server-outside c).args in
     not (each (within 1 (shelf args.t).servers) args.servers.now) ≡ c.server_outside.result
 servers-tested c =
-    ap (λ (s : ℕ). not (each (within 1 s) (start-from-server-outside c).args.servers.now)) (sym c.before.servers_of.ensures)
+    ap (λ (s : ℕ). not (each (within 1 s) (start-from-server-outside c).args.servers.now)) (sym c.servers_of.ensures)
     ∙ sym c.server_outside.ensures
 
 returns : tie.Need-returns-then-outside
 returns c =
-    let args = c.before.before.before.args in
-    sym (server_tests args.t args.servers.now true _ (sym c.before.outside.ensures ∙ c.if-outside.true) refl)
+    let args = c.args in
+    sym (server_tests args.t args.servers.now true _ (sym c.outside.ensures ∙ c.if-outside.true) refl)
 
 servers-of-requires : tie.Need-servers_of-requires
-servers-of-requires c κs = (within_bounds 1 top_faults c.before.before.before.args.t (not-false _ (faults-in c))).1
+servers-of-requires c κs = (within_bounds 1 top_faults c.args.t (not-false _ (faults-in c))).1
 
 returns-2 : tie.Need-returns-then-server_outside
 returns-2 c =

@@ -41,23 +41,23 @@ returns c =
     let s = start-from-then1 c.before in
     let pre = s.requires in
     let server = s.args.server in
-    let small : (j : ℕ) → get_or (content s) j 0 < 256 = λ j. (c.before.before.shared_slice_known-2-1.given j).fits in
+    let small : (j : ℕ) → get_or (content s) j 0 < 256 = λ j. (c.shared_slice_known-2-1.given j).fits in
     c.plain.ensures
     ∙ ap (λ (l : List ℕ). l ++ replicate (fragment_room - f s) 0)
     (ap (λ (x : ℕ). plain_of x (server - 1) (content s)) pre.6
-    ∙ run-made (points s) (k s) (content s) server pre.3 pre.2 pre.4 c.before.if-server-k.true small)
+    ∙ run-made (points s) (k s) (content s) server pre.3 pre.2 pre.4 c.if-server-k.true small)
 
 abbrev start-from-plain-runs : tie.After-plain_runs → tie.Start
 start-from-plain-runs c = c.before.before.before.before
 
 plain-runs-requires : tie.Need-plain_runs-requires
-plain-runs-requires c κs = let pre = c.before.before.before.requires in (pre.1, pre.7)
+plain-runs-requires c κs = let pre = c.requires in (pre.1, pre.7)
 
 value-requires : tie.Need-value-requires
 value-requires c κs =
     let s = start-from-plain-runs c.before in
     let pre = s.requires in
-    let runs = c.before.plain_runs in
+    let runs = c.plain_runs in
     let many = runs.ensures.0 in (
       omega (arith, many, pre.1),
       omega (arith, many, pre.2),
@@ -76,7 +76,7 @@ unfolding point_of
 returns-2 c =
     let s = start-from-plain-runs c.before.before in
     let pre = s.requires in
-    let runs = c.before.before.plain_runs in
+    let runs = c.plain_runs in
     let server = s.args.server in
     let starts = runs.result.starts in
     let z = point_of (points s) server in

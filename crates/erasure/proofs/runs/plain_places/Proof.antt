@@ -18,10 +18,10 @@ loop-holds : tie.Need-loop-j-init invariant-loop decreases-loop
 loop-holds c = (search rules, filled_none refl)
 
 loop-again : tie.Need-loop-j-preserved invariant-loop decreases-loop
-loop-again c = (search rules, filled_more c.before.loop-j.invariant.1 (omega arith) _ refl)
+loop-again c = (search rules, filled_more c.loop-j.invariant.1 (omega arith) _ refl)
 
 returns : tie.Need-returns invariant-loop decreases-loop
-returns c j h = c.before.loop-j.invariant.1.each j (omega arith)
+returns c j h = c.loop-j.invariant.1.each j (omega arith)
 
 pub plain_places_spec : {M : Type 1} → statement M
 plain_places_spec = tie.close (tie.spec invariant-loop decreases-loop loop-holds (λ c. search rules) (λ c. search rules) (λ c. search rules) (λ c. search rules)

@@ -10,8 +10,8 @@ use Rattle.erasure.proofs.runs.plain_runs.Tie as tie
 
 runs-at-requires : tie.Need-runs_at-requires
 runs-at-requires c κs =
-    let args = c.before.args in
-    let pre = c.before.requires in
+    let args = c.args in
+    let pre = c.requires in
     let places = c.plain_places in (
       pre.0,
       λ j h.
@@ -21,10 +21,10 @@ runs-at-requires c κs =
 
 returns : tie.Need-returns
 returns c =
-    let args = c.before.before.args in
+    let args = c.args in
     let made = c.runs_at.ensures in
-    let places = c.before.plain_places in
-    (made.0, made.1, λ j h. made.2 j h ∙ ap (λ (x : ℕ). x * args.f) (places.ensures j (omega (arith, c.before.before.requires.0))))
+    let places = c.plain_places in
+    (made.0, made.1, λ j h. made.2 j h ∙ ap (λ (x : ℕ). x * args.f) (places.ensures j (omega (arith, c.requires.0))))
 
 pub plain_runs_spec : {M : Type 1} → statement M
 plain_runs_spec = tie.close (tie.spec (λ c κs. search rules) runs-at-requires returns)

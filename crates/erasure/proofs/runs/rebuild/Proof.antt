@@ -29,7 +29,7 @@ abbrev start-from-of-chosen : tie.After-of_chosen-rows → tie.Start
 start-from-of-chosen c = c.before.before.before.before.before
 
 of-chosen-requires : tie.Need-of_chosen-rows-requires
-of-chosen-requires c κs = let pre = c.before.before.before.before.requires in (pre.0, pre.1, pre.2, pre.3, pre.4, pre.5)
+of-chosen-requires c κs = let pre = c.requires in (pre.0, pre.1, pre.2, pre.3, pre.4, pre.5)
 
 runs-at-requires : tie.Need-runs_at-requires
 runs-at-requires c κs = let pre = (start-from-of-chosen c).requires in (pre.1, λ j h. omega (arith, pre.8 j h))
@@ -68,7 +68,7 @@ returns c =
     let args = s.args in
     let pre = s.requires in
     let runs = at.runs_at in
-    let rows = at.before.of_chosen-rows in
+    let rows = at.of_chosen-rows in
     let k = count at in
     let all = points at in
     let fragments = args.fragments.now in
@@ -78,7 +78,7 @@ returns c =
     let ls = servers-long s in
     let la = places-long s in
     let lg : length given ≡ width = length-map servers (point_of all) ∙ ls in
-    let small : (j : ℕ) → get_or fragments j 0 < 256 = λ j. (at.before.before.before.before.shared_slice_known-2-1.given j).fits in
+    let small : (j : ℕ) → get_or fragments j 0 < 256 = λ j. (at.shared_slice_known-2-1.given j).fits in
     let apart : AllDifferent k given = points-differ k all servers given pre.3 pre.4 pre.5
     (λ j b. get_d_map (point_of all) servers j 0 0 (omega (arith, ls, pre.1))) in
     let are : (i j : ℕ) → i < k → j < k → get_or rows.result (i * k + j) 0 ≡ weight_of (take k given) (get_or all i 0) j =
@@ -86,7 +86,7 @@ returns c =
     ap (λ (l : List ℕ). get_or l (i * k + j) 0) rows.ensures ∙ row-entry all (map (point_of all) (take k servers)) (replicate (rows_room - k * k) 0) k i
     j hi hj
     ∙ ap (λ (xs : List ℕ). weight_of xs (get_or all i 0) j) (sym (take-map (point_of all) k servers)) in
-    c.before.before.write_runs.ensures
+    c.write_runs.ensures
     ∙ ap (λ (l : List ℕ). l ++ drop args.n args.out.now)
     (ap₂ (λ (x y : ℕ). weighed_of x y args.n rows.result fragments runs.result.starts) (count_is at) (size_is at)
     ∙ weighed_rebuilt k args.f args.n rows.result all given fragments runs.result.starts pre.6 (omega (arith, lg, pre.1)) apart

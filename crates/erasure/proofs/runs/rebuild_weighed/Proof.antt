@@ -38,7 +38,7 @@ returns c =
     let args = start.args in
     let runs = at.plain_runs in
     let fragments = args.fragments.now in
-    c.before.before.write_runs.ensures
+    c.write_runs.ensures
     ∙ ap (λ (l : List ℕ). l ++ drop args.n args.out.now)
     (ap₂ (λ (x y : ℕ). weighed_of x y args.n args.rows fragments runs.result.starts) runs.ensures.0 runs.ensures.1
     ∙ weighed-bytes args.k args.f args.n args.rows fragments runs.result.starts start.requires.1 runs.ensures.2)

@@ -18,22 +18,22 @@ copy-requires : tie.Need-copy-requires
 copy-requires c κs =
     let at-unit-of = c.before.before.before in
     let start = start-from-unit-of at-unit-of in
-    (start.requires.1 at-unit-of.unit_of-j.result c.before.before.if-j-k.true, start.requires.2)
+    (start.requires.1 at-unit-of.unit_of-j.result c.if-j-k.true, start.requires.2)
 
 returns : tie.Need-returns-then-j-k
 returns c =
     let at-unit-of = c.before.before.before.before.before.before in
-    let taken = c.before.before.before.before.before.if-j-k.true in
+    let taken = c.if-j-k.true in
     let args = (start-from-unit-of at-unit-of).args in
     let runs = args.runs in
     let fragments = args.fragments.now in
     let r = at-unit-of.unit_of-j in
     let unit = r.ensures taken in
-    let small : (j : ℕ) → get_or fragments j 0 < 256 = λ j. (at-unit-of.before.before.shared_slice_known-1.given j).fits in
+    let small : (j : ℕ) → get_or fragments j 0 < 256 = λ j. (at-unit-of.shared_slice_known-1.given j).fits in
     written_as _ _ args.at args.m (λ q. byte_at fragments runs.starts q r.result) (sum_at runs.count (λ j. get_or args.row j 0) fragments
     runs.starts)
     (λ q h. sym (copies runs.count (λ j. get_or args.row j 0) fragments runs.starts q r.result taken unit.0 unit.1 small))
-    c.before.before.copy.ensures
+    c.copy.ensures
 
 combine-requires : tie.Need-combine-requires
 combine-requires c κs =
@@ -41,7 +41,7 @@ combine-requires c κs =
     (start.requires.0, λ j h. omega (arith, start.requires.1 j h), start.requires.2, start.requires.3)
 
 returns-2 : tie.Need-returns
-returns-2 c = c.before.before.combine.ensures
+returns-2 c = c.combine.ensures
 
 pub run_spec : {M : Type 1} → statement M
 run_spec = tie.close (tie.spec (λ c κs. search rules) (λ c. search rules) (λ c. search rules) copy-requires (λ c. search rules) returns

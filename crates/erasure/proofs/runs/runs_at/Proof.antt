@@ -20,14 +20,14 @@ loop-holds c = (search rules, filled_none refl)
 
 mul-out-2 : tie.Need-overflow_mul-out invariant-loop decreases-loop
 mul-out-2 c =
-    let h : c.before.loop-j.j < c.before.before.args.k = search rules in
-    omega (arith, c.before.before.requires.1 c.before.loop-j.j h)
+    let h : c.loop-j.j < c.args.k = search rules in
+    omega (arith, c.requires.1 c.loop-j.j h)
 
 loop-again : tie.Need-loop-j-preserved invariant-loop decreases-loop
-loop-again c = (search rules, filled_more c.before.loop-j.invariant.1 (omega arith) _ refl)
+loop-again c = (search rules, filled_more c.loop-j.invariant.1 (omega arith) _ refl)
 
 returns : tie.Need-returns invariant-loop decreases-loop
-returns c = (refl, refl, λ j h. c.before.loop-j.invariant.1.each j (omega arith))
+returns c = (refl, refl, λ j h. c.loop-j.invariant.1.each j (omega arith))
 
 pub runs_at_spec : {M : Type 1} → statement M
 runs_at_spec = tie.close (tie.spec invariant-loop decreases-loop loop-holds (λ c. search rules) (λ c. search rules) mul-out-2 (λ c. search rules)

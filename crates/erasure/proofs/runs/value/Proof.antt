@@ -18,7 +18,7 @@ start-from-weights c = c.before.before.before
 combine-requires : tie.Need-combine-requires
 combine-requires c κs =
     let pre = (start-from-weights c.before.before).requires in
-    let l : length c.before.blank-bytes.result ≡ fragment_room = search rules in
+    let l : length c.blank-bytes.result ≡ fragment_room = search rules in
     (pre.0, pre.4, omega (arith, l, pre.3), pre.5)
 
 returns : tie.Need-returns
@@ -31,11 +31,11 @@ returns c =
     let xs = args.points.now in
     let src = args.src.now in
     let w = at-weights.weights-weights in
-    let points : (j : ℕ) → get_or xs j 0 < 256 = λ j. (at-weights.before.before.shared_slice_known-1.given j).fits in
-    let small : (j : ℕ) → get_or src j 0 < 256 = λ j. (at-weights.before.shared_slice_known-2-1.given j).fits in
+    let points : (j : ℕ) → get_or xs j 0 < 256 = λ j. (at-weights.shared_slice_known-1.given j).fits in
+    let small : (j : ℕ) → get_or src j 0 < 256 = λ j. (at-weights.shared_slice_known-2-1.given j).fits in
     made runs.count runs.size fragment_room args.z (λ j. get_or w.result j 0) (direct_at runs.count xs args.z) src runs.starts xs _ _
-    c.before.before.before.blank-bytes.ensures pre.3
-    (direct runs.count xs points pre.1 pre.2 args.z start.fits.z.fits) w.ensures small c.before.combine.ensures
+    c.blank-bytes.ensures pre.3
+    (direct runs.count xs points pre.1 pre.2 args.z start.fits.z.fits) w.ensures small c.combine.ensures
 
 pub value_spec : {M : Type 1} → statement M
 value_spec = tie.close (tie.spec (λ c κs. search rules) (λ c κs. search rules) (λ c. search rules) combine-requires returns)

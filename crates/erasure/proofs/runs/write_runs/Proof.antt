@@ -26,7 +26,7 @@ module _ (c : tie.In-loop-done invariant-loop decreases-loop) where
   start = c.before.before.before.before
 
   abbrev done : ℕ
-  done = c.before.loop-done.done
+  done = c.loop-done.done
 
   has-byte : 0 < start.args.runs.size
   has-byte = run_pos start.args.runs.count start.args.runs.size start.args.n done start.requires.1 (omega arith)
@@ -45,7 +45,7 @@ run-requires c κs =
     let m = at_most.at_most-m.ensures in (
       pre.0,
       λ j h. omega (arith, pre.3 j h, m.1),
-      omega (arith, m.0, in-loop.before.loop-done.invariant.2.long, pre.2),
+      omega (arith, m.0, in-loop.loop-done.invariant.2.long, pre.2),
       omega (arith, one_of in-loop),
     )
 
@@ -67,26 +67,26 @@ loop-again : tie.Need-loop-done-preserved invariant-loop decreases-loop
 loop-again c =
     let at_most = at-most-from-slice-known2 c in
     let in-loop = at_most.before.before in
-    let l = in-loop.before.loop-done in
+    let l = in-loop.loop-done in
     let args = (start in-loop).args in
     let runs = args.runs in
     let f = runs.size in
     let m = at_most.at_most-m in
-    let row = at_most.before.row_at-row in
+    let row = at_most.row_at-row in
     let e : l.done % f ≡ 0 = l.invariant.1 (omega arith) in (
       omega (arith, m.ensures.0),
       λ h. (let q : m.result ≡ f = m.ensures.3 (omega arith) in ap (λ (x : ℕ). (l.done + x) % f) q ∙ add-mod_right l.done f ∙ e),
       run_more runs.count f l.done m.result args.rows row.result args.fragments.now runs.starts
-          args.out.now l.out _ e m.ensures.1 row.ensures l.invariant.2 c.before.before.run.ensures,
+          args.out.now l.out _ e m.ensures.1 row.ensures l.invariant.2 c.run.ensures,
     )
 
 same_length : tie.Need-shape_of-out invariant-loop decreases-loop
-same_length c = c.before.loop-done.invariant.2.long
+same_length c = c.loop-done.invariant.2.long
 
 returns : tie.Need-returns invariant-loop decreases-loop
 unfolding weighed_of
 returns c =
-    let l = c.before.loop-done in
+    let l = c.loop-done in
     let start = c.before.before.before.before in
     let args = start.args in
     let runs = args.runs in

@@ -25,8 +25,8 @@ loop-holds c = (search rules, filled_none refl)
 
 loop-again : tie.Need-loop-c-preserved invariant-loop decreases-loop
 loop-again c =
-    let at = c.before.before.loop-c in
-    let args = c.before.before.before.args in
+    let at = c.loop-c in
+    let args = c.args in
     let x : Fits w8 (get_or args.row at.c 0) = search rules in (
       search rules,
       filled_more at.invariant.1 (omega arith) _
@@ -34,7 +34,7 @@ loop-again c =
     )
 
 returns : tie.Need-returns invariant-loop decreases-loop
-returns c j h = c.before.loop-c.invariant.1.each j (omega arith)
+returns c j h = c.loop-c.invariant.1.each j (omega arith)
 
 pub add_row_spec : {M : Type 1} → statement M
 add_row_spec = tie.close (tie.spec invariant-loop decreases-loop loop-holds (λ c. search rules) (λ c. search rules) (λ c κs. search rules) (λ c. search rules)

@@ -21,10 +21,10 @@ loop-holds : tie.Need-loop-r-init invariant-loop decreases-loop
 loop-holds c = (search rules, filled_none refl)
 
 loop-again : tie.Need-loop-r-preserved invariant-loop decreases-loop
-loop-again c = (search rules, filled_more c.before.before.loop-r.invariant.1 (omega arith) _ c.powers_row.ensures)
+loop-again c = (search rules, filled_more c.loop-r.invariant.1 (omega arith) _ c.powers_row.ensures)
 
 returns : tie.Need-returns invariant-loop decreases-loop
-returns c i j hi hj = c.before.loop-r.invariant.1.each i (omega arith) j hj
+returns c i j hi hj = c.loop-r.invariant.1.each i (omega arith) j hj
 
 pub begin_spec : {M : Type 1} → statement M
 begin_spec = tie.close (tie.spec invariant-loop decreases-loop loop-holds (λ c. search rules) (λ c κs. search rules) (λ c. search rules) (λ c. search rules)

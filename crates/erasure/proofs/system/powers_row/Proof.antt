@@ -23,8 +23,8 @@ loop-holds c = (search rules, search rules, filled_more {l = replicate system_ro
 loop-again : tie.Need-loop-c-preserved invariant-loop decreases-loop
 unfolding power
 loop-again c =
-    let at = c.before.before.loop-c in
-    let x = c.before.before.before.args.x in
+    let at = c.loop-c in
+    let x = c.args.x in
     let e : suc (at.c - 1) ≡ at.c = omega arith in (
       search rules,
       search rules,
@@ -33,7 +33,7 @@ loop-again c =
     )
 
 returns : tie.Need-returns invariant-loop decreases-loop
-returns c j h = c.before.loop-c.invariant.2.each j (omega arith)
+returns c j h = c.loop-c.invariant.2.each j (omega arith)
 
 pub powers_row_spec : {M : Type 1} → statement M
 powers_row_spec = tie.close (tie.spec invariant-loop decreases-loop (λ c. search rules) loop-holds (λ c. search rules) (λ c. search rules) (λ c κs. search rules)

@@ -26,15 +26,15 @@ decreases-loop k a₀ p₀ a p = k - p
 
 loop-holds : tie.Need-loop-p-init invariant-loop decreases-loop
 loop-holds c =
-    let xs = c.before.args.xs in
-    let k = c.before.args.k in
+    let xs = c.args.xs in
+    let k = c.args.k in
     let s : (i : ℕ) → get_or xs i 0 < 256 = λ i. (let f : Fits w8 (get_or xs i 0) = search rules in f.fits) in
     (search rules, begun-small k xs c.begin-a.result s c.begin-a.ensures, half_none field laws k (mat c.begin-a.result))
 
 loop-again : tie.Need-loop-p-preserved invariant-loop decreases-loop
 loop-again c =
-    let at = c.before.before.loop-p in
-    let sys = c.before.before.before.begin-a in
+    let at = c.loop-p in
+    let sys = c.begin-a in
     let start = c.before.before.before.before in
     let xs = start.args.xs in
     let k = start.args.k in
@@ -56,8 +56,8 @@ loop-again c =
 
 returns : tie.Need-returns invariant-loop decreases-loop
 returns c =
-    let at = c.before.loop-p in
-    let sys = c.before.before.begin-a in
+    let at = c.loop-p in
+    let sys = c.begin-a in
     let start = c.before.before.before in
     let xs = start.args.xs in
     let k = start.args.k in

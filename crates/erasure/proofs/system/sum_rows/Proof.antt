@@ -31,8 +31,8 @@ loop-holds c =
 
 loop-again : tie.Need-loop-c-preserved invariant-loop decreases-loop
 loop-again c =
-    let at = c.before.before.before.loop-c in
-    let args = c.before.before.before.before.before.args in (
+    let at = c.loop-c in
+    let args = c.args in (
       search rules,
       search rules,
       λ j h.
@@ -42,8 +42,8 @@ loop-again c =
 
 returns : tie.Need-returns invariant-loop decreases-loop
 returns c j h =
-    let args = c.before.before.before.args in
-    c.before.loop-c.invariant.2 j h ∙ ap (λ (n : ℕ). sum_to n (λ i. times (get_or args.powers i 0) (entry args.a i j))) (omega arith)
+    let args = c.args in
+    c.loop-c.invariant.2 j h ∙ ap (λ (n : ℕ). sum_to n (λ i. times (get_or args.powers i 0) (entry args.a i j))) (omega arith)
 
 pub sum_rows_spec : {M : Type 1} → statement M
 sum_rows_spec = tie.close (tie.spec invariant-loop decreases-loop (λ c. search rules) loop-holds (λ c. search rules) (λ c. search rules) (λ c. search rules)

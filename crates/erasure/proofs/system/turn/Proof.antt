@@ -26,8 +26,8 @@ loop-holds c = (search rules, filled_none (search rules), λ j h. refl)
 loop-again : tie.Need-loop-r-preserved invariant-loop decreases-loop
 loop-again c =
     let at-inverse = c.before.before.before.before.before in
-    let at = c.before.before.before.loop-r in
-    let args = at-inverse.before.before.args in
+    let at = c.loop-r in
+    let args = at-inverse.args in
     let pivot = get_or args.a args.p [] in
     let d = at-inverse.inverse-d.result in (
       search rules,
@@ -38,13 +38,13 @@ loop-again c =
 
 returns : tie.Need-returns invariant-loop decreases-loop
 returns c =
-    let args = c.before.before.before.before.before.args in
-    let unit = c.before.before.unit_row in
-    let d = c.before.before.before.inverse-d in
-    subst (λ (x : ℕ). SystemTurned args.k args.a args.p x c.before.loop-r.out) d.ensures
-    (system_turned args.k args.a c.before.loop-r.out args.p d.result unit.result (search rules) (search rules) unit.ensures.0
+    let args = c.args in
+    let unit = c.unit_row in
+    let d = c.inverse-d in
+    subst (λ (x : ℕ). SystemTurned args.k args.a args.p x c.loop-r.out) d.ensures
+    (system_turned args.k args.a c.loop-r.out args.p d.result unit.result (search rules) (search rules) unit.ensures.0
     unit.ensures.1 (search rules) (search rules)
-    (λ j h. c.before.loop-r.invariant.1.each j (omega arith)))
+    (λ j h. c.loop-r.invariant.1.each j (omega arith)))
 
 pub turn_spec : {M : Type 1} → statement M
 turn_spec = tie.close (tie.spec invariant-loop decreases-loop (λ c. search rules) (λ c. search rules) (λ c. search rules) (λ c κs. search rules)

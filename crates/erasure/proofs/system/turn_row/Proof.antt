@@ -12,8 +12,8 @@ use Rattle.erasure.proofs.system.turn_row.Tie as tie
 
 returns : tie.Need-returns
 returns c =
-    let args = c.before.before.args in
-    let w = c.before.mul-w in
+    let args = c.args in
+    let w = c.mul-w in
     let sum = c.add_row-out in
     record {
       here = get_or-set_same sum.result args.p w.result 0 (search rules) ∙ w.ensures;

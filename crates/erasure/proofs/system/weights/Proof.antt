@@ -26,15 +26,15 @@ loop-holds : tie.Need-loop-j-init invariant-loop decreases-loop
 loop-holds c = (search rules, filled_none refl)
 
 loop-again : tie.Need-loop-j-preserved invariant-loop decreases-loop
-loop-again c = (search rules, filled_more c.before.loop-j.invariant.1 (omega arith) _ refl)
+loop-again c = (search rules, filled_more c.loop-j.invariant.1 (omega arith) _ refl)
 
 returns : tie.Need-returns invariant-loop decreases-loop
 unfolding weight_at
 returns c j h =
     let at_sum = c.before.before in
-    let powers = at_sum.before.powers_row in
-    let args = at_sum.before.before.args in
-    c.before.loop-j.invariant.1.each j (omega arith) ∙ at_sum.sum_rows-sum.ensures j (omega arith)
+    let powers = at_sum.powers_row in
+    let args = at_sum.args in
+    c.loop-j.invariant.1.each j (omega arith) ∙ at_sum.sum_rows-sum.ensures j (omega arith)
     ∙ sum_to_ext args.k (λ i. times (get_or powers.result i 0) (entry args.a i j)) (λ i. times (power args.z i) (entry args.a i j))
     (λ i b. ap (λ (x : ℕ). times x (entry args.a i j)) (powers.ensures i b))
 

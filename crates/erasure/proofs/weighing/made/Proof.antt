@@ -24,15 +24,15 @@ abbrev decreases-loop : tie.decreases-loop-i
 decreases-loop points k places a out₀ i₀ out i = k - i
 
 places-of-requires : tie.Need-places_of-places-requires invariant-loop decreases-loop
-places-of-requires c κs = let pre = c.before.requires in (pre.1, pre.2)
+places-of-requires c κs = let pre = c.requires in (pre.1, pre.2)
 
 system-of-requires : tie.Need-system_of-a-requires invariant-loop decreases-loop
-system-of-requires c κs = let pre = c.before.before.requires in (pre.1, pre.3)
+system-of-requires c κs = let pre = c.requires in (pre.1, pre.3)
 
 loop-holds : tie.Need-loop-i-init invariant-loop decreases-loop
 loop-holds c =
-    let args = c.before.before.before.args in
-    let g : ℕ → ℕ = made_at args.k c.system_of-a.result c.before.places_of-places.result args.points.now in
+    let args = c.args in
+    let g : ℕ → ℕ = made_at args.k c.system_of-a.result c.places_of-places.result args.points.now in
     (search rules, subst (λ (x : ℕ). RunWritten (replicate rows_room 0) (replicate rows_room 0) 0 x g) (sym (zero-mul args.k)) (written_none _ _ g))
 
 -- Places far back, each named once: the place, and from where it is seen.
@@ -55,7 +55,7 @@ mul-copy c = omega (arith, row_fits c)
 
 copy-requires : tie.Need-copy-requires invariant-loop decreases-loop
 copy-requires c κs =
-    let l : length c.before.before.row_of-row.result ≡ width = search rules in
+    let l : length c.row_of-row.result ≡ width = search rules in
     let start = start-from-loop (loop-from-out c) in
     (omega (arith, l, start.requires.1), omega (arith, row_fits c, (loop-from-out c).loop-i.invariant.1.long))
 
@@ -66,10 +66,10 @@ loop-again c =
     let start = start-from-loop at-loop in
     let args = start.args in
     let l = at-loop.loop-i in
-    let row = at_out.before.before.row_of-row in (
+    let row = at_out.row_of-row in (
       search rules,
-      row_more args.k l.i at-loop.before.system_of-a.result at-loop.before.before.places_of-places.result args.points.now
-          row.result (replicate rows_room 0) l.out _ (omega arith) row.ensures l.invariant.1 c.before.copy.ensures,
+      row_more args.k l.i at-loop.system_of-a.result at-loop.places_of-places.result args.points.now
+          row.result (replicate rows_room 0) l.out _ (omega arith) row.ensures l.invariant.1 c.copy.ensures,
     )
 
 returns : tie.Need-returns invariant-loop decreases-loop
@@ -80,10 +80,10 @@ returns c =
     let pre = start.requires in
     let k = args.k in
     let l = at-loop.loop-i in
-    let a = at-loop.before.system_of-a in
-    let places = at-loop.before.before.places_of-places in
+    let a = at-loop.system_of-a in
+    let places = at-loop.places_of-places in
     let points = args.points.now in
-    let small : (j : ℕ) → get_or points j 0 < 256 = λ j. (at-loop.before.before.before.shared_slice_known-1.given j).fits in
+    let small : (j : ℕ) → get_or points j 0 < 256 = λ j. (at-loop.shared_slice_known-1.given j).fits in
     let given-small : (j : ℕ) → get_or args.given j 0 < 256 = λ j. (let f : Fits w8 (get_or args.given j 0) = search rules in f.fits) in
     let long : length args.given ≡ width = search rules in
     let wide : length places.result ≡ width = search rules in

@@ -15,7 +15,7 @@ use Rattle.erasure.proofs.weighing.of_chosen.Statement.{statement}
 use Rattle.erasure.proofs.weighing.of_chosen.Tie as tie
 
 points-of-requires : tie.Need-points_of-given-requires
-points-of-requires c κs = let pre = c.before.before.requires in (pre.1, pre.5)
+points-of-requires c κs = let pre = c.requires in (pre.1, pre.5)
 
 made-requires : tie.Need-made-requires
 made-requires c κs =
@@ -36,7 +36,7 @@ returns c =
     let k = start.args.c.count in
     let all = start.args.points.now in
     let servers = start.args.c.servers in
-    let given = c.before.points_of-given in
+    let given = c.points_of-given in
     let long : length given.result ≡ width = search rules in
     let ls : length servers ≡ width = search rules in
     let full : length (take k servers) ≡ k = length-take-le k servers (omega (arith, ls, pre.1)) in

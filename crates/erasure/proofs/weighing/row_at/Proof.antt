@@ -21,8 +21,8 @@ copy-requires c κs =
 
 returns : tie.Need-returns
 returns c j h =
-    let args = c.before.before.before.before.args in
-    written_at _ _ args.k (λ m. get_or args.rows (args.i * args.k + m) 0) c.before.copy.ensures j h
+    let args = c.args in
+    written_at _ _ args.k (λ m. get_or args.rows (args.i * args.k + m) 0) c.copy.ensures j h
 
 pub row_at_spec : {M : Type 1} → statement M
 row_at_spec = tie.close (tie.spec (λ c. search rules) mul-copy (λ c. search rules) copy-requires returns)

@@ -21,7 +21,7 @@ returns-2 : tie.Need-returns
 returns-2 c j h =
     let start = c.before.before in
     let args = start.args in
-    c.weights.ensures j (omega (arith, h, start.requires.1)) ∙ sym (row_weighed args.k args.a args.place args.z j c.before.if-place-k.false)
+    c.weights.ensures j (omega (arith, h, start.requires.1)) ∙ sym (row_weighed args.k args.a args.place args.z j c.if-place-k.false)
 
 pub row_of_spec : {M : Type 1} → statement M
 row_of_spec = tie.close (tie.spec (λ c. search rules) returns (λ c κs. search rules) returns-2)

@@ -28,18 +28,18 @@ returns-3 c h = absurd (omega (arith, h))
 
 loop-again : tie.Need-loop-j-preserved invariant-loop decreases-loop
 loop-again c =
-    let l = c.before.before.loop-j in
+    let l = c.loop-j in
     let start = c.before.before.before.before.before.before in
-    let p = c.before.before.before.before.before.first_weight-p.result in
+    let p = c.first_weight-p.result in
     (omega arith, omega arith, zero_more start.args.row p l.j l.invariant.2 c.if-row-j-ne0.false)
 
 returns-4 : tie.Need-returns invariant-loop decreases-loop
 returns-4 c h =
-    let l = c.before.loop-j in
+    let l = c.loop-j in
     let at_first = c.before.before.before.before in
-    let row = at_first.before.args.row in (
-      c.before.before.if-row-p-ne1.false,
-      zero_beside row at_first.first_weight-p.result at_first.before.args.k at_first.first_weight-p.ensures.1
+    let row = at_first.args.row in (
+      c.if-row-p-ne1.false,
+      zero_beside row at_first.first_weight-p.result at_first.args.k at_first.first_weight-p.ensures.1
           (λ i a b. l.invariant.2 i a (omega arith)),
     )
 

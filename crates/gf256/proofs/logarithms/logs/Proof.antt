@@ -51,10 +51,10 @@ loop-holds c = (omega arith, record { size = length-replicate {A = ℕ} 256 0; f
 
 loop-again : tie.Need-loop-k-preserved invariant-loop decreases-loop
 unfolding logs
-loop-again c = (omega arith, placed-more c.before.loop-k.invariant.1 (omega arith) refl)
+loop-again c = (omega arith, placed-more c.loop-k.invariant.1 (omega arith) refl)
 
 returns : tie.Need-returns invariant-loop decreases-loop
-returns c = let e : c.before.loop-k.k ≡ 255 = omega arith in placed-all (rw e at c.before.loop-k.invariant.1)
+returns c = let e : c.loop-k.k ≡ 255 = omega arith in placed-all (rw e at c.loop-k.invariant.1)
 
 pub logs_spec : {M : Type 1} → statement M
 logs_spec = tie.close (tie.spec invariant-loop decreases-loop loop-holds (λ c. search rules) (λ c. search rules) (λ c. search rules) (λ c. search rules)

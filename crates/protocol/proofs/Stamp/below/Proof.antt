@@ -9,8 +9,8 @@ use Rattle.protocol.proofs.Stamp.below.Tie as tie
 
 returns : tie.Need-returns
 returns c =
-    let a = c.before.before.args in
-    (λ i. ltb (c.before.rank_of.ensures i) (c.rank_of-2.ensures i)) ∙ sym (below-rank a.self a.other (omega arith) (omega arith))
+    let a = c.args in
+    (λ i. ltb (c.rank_of.ensures i) (c.rank_of-2.ensures i)) ∙ sym (below-rank a.self a.other (omega arith) (omega arith))
 
 pub below_spec : {M : Type 1} → statement M
 below_spec = tie.close (tie.spec (λ c κs. search rules) (λ c κs. search rules) returns)

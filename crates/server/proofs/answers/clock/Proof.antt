@@ -8,9 +8,9 @@ returns : tie.Need-returns
 returns c =
     let at-part2 = c.before.before.before.before in
     let at-shared-slice-known = at-part2.before.before.before.before in
-    clock-answers at-shared-slice-known.before.args.memory.now (λ i. (at-shared-slice-known.shared_slice_known-1.given i).fits)
-    at-shared-slice-known.before.args.out.now at-shared-slice-known.before.args.head at-part2.part-2.ensures
-    at-part2.before.part.ensures at-part2.before.before.reply_head.ensures c.before.before.make_packet.ensures
+    clock-answers at-shared-slice-known.args.memory.now (λ i. (at-shared-slice-known.shared_slice_known-1.given i).fits)
+    at-shared-slice-known.args.out.now at-shared-slice-known.args.head at-part2.part-2.ensures
+    at-part2.part.ensures at-part2.reply_head.ensures c.make_packet.ensures
 
 pub clock_spec : {M : Type 1} → statement M
 clock_spec = tie.close (tie.spec (λ c κs. search rules) (λ c κs. search rules) (λ c κs. search rules) (λ c κs. search rules) (λ c. search rules)

@@ -9,11 +9,11 @@ returns c =
     let at-part2 = c.before.before.before.before in
     let at-raise = at-part2.before.before.before.before.before in
     let at-shared-slice-known = at-raise.before.before.before.before in
-    complete-answers at-shared-slice-known.before.before.args.memory.now (λ i. (at-shared-slice-known.before.slice_known-1.given
-    i).fits) at-shared-slice-known.before.before.args.packet.now (λ i. (at-shared-slice-known.shared_slice_known-1.given
-    i).fits) at-shared-slice-known.before.before.args.out.now at-shared-slice-known.before.before.args.head
-    at-raise.before.rest.ensures at-raise.raise.ensures at-part2.before.part.ensures at-part2.part-2.ensures
-    at-part2.before.before.reply_head.ensures c.before.before.make_packet.ensures
+    complete-answers at-shared-slice-known.args.memory.now (λ i. (at-shared-slice-known.slice_known-1.given
+    i).fits) at-shared-slice-known.args.packet.now (λ i. (at-shared-slice-known.shared_slice_known-1.given
+    i).fits) at-shared-slice-known.args.out.now at-shared-slice-known.args.head
+    at-raise.rest.ensures at-raise.raise.ensures at-part2.part.ensures at-part2.part-2.ensures
+    at-part2.reply_head.ensures c.make_packet.ensures
 
 pub complete_spec : {M : Type 1} → statement M
 complete_spec = tie.close (tie.spec (λ c κs. search rules) (λ c κs. search rules) (λ c κs. search rules) (λ c κs. search rules) (λ c κs. search rules)

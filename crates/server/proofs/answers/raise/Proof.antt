@@ -8,16 +8,16 @@ returns : tie.Need-returns-then-below
 returns c =
     let at-then1 = c.before.before.before.before in
     let b = at-then1.before.before.before in
-    let a = b.before.before.before.before.before.args in
-    raise-higher a.memory.now a.candidate.now b.before.rest.ensures b.head_at-latest.ensures
-    at-then1.before.before.head_at-next.ensures at-then1.before.below.ensures at-then1.if-below.true c.before.before.put.ensures
+    let a = b.args in
+    raise-higher a.memory.now a.candidate.now b.rest.ensures b.head_at-latest.ensures
+    at-then1.head_at-next.ensures at-then1.below.ensures at-then1.if-below.true c.put.ensures
 
 returns-2 : tie.Need-returns-else-below
 returns-2 c =
     let b = c.before.before.before in
-    let a = b.before.before.before.before.before.args in
-    raise-other a.memory.now a.candidate.now b.before.rest.ensures b.head_at-latest.ensures c.before.before.head_at-next.ensures
-    c.before.below.ensures c.if-below.false
+    let a = b.args in
+    raise-other a.memory.now a.candidate.now b.rest.ensures b.head_at-latest.ensures c.head_at-next.ensures
+    c.below.ensures c.if-below.false
 
 pub raise_spec : {M : Type 1} → statement M
 raise_spec = tie.close (tie.spec (λ c κs. search rules) (λ c κs. search rules) (λ c κs. search rules) (λ c κs. search rules) (λ c κs. search rules)

@@ -17,12 +17,12 @@ abbrev start-from-else2 : tie.Else-outside → tie.Start
 start-from-else2 c = c.before.before.before.before
 
 faults-in : (c : tie.Else-outside) → not (within 1 top_faults (start-from-else2 c).args.t) ≡ false
-faults-in c = sym c.before.outside.ensures ∙ c.if-outside.false
+faults-in c = sym c.outside.ensures ∙ c.if-outside.false
 
 server-tested : (c : tie.After-outside-2) → let a = (start-from-else2 c.before.before).args in not
     (within 1 (shelf a.t).servers a.server) ≡ c.outside-2.result
 server-tested c = ap (λ (n : ℕ). not (within 1 n (start-from-else2 c.before.before).args.server))
-    (sym c.before.servers.ensures) ∙ sym c.outside-2.ensures
+    (sym c.servers.ensures) ∙ sym c.outside-2.ensures
 
 server-in : (c : tie.Else-outside-2) → let a = (start-from-else2 c.before.before.before).args in not
     (within 1 (shelf a.t).servers a.server) ≡ false
@@ -31,15 +31,15 @@ server-in c = server-tested c.before ∙ c.if-outside-2.false
 -- ---- the needs
 
 returns : tie.Need-returns-then-memory-ne-MEMORY
-returns c = let a = c.before.before.before.args in rw c.refused.ensures (blank-size a.memory.now a.t a.server
-    c.before.if-memory-ne-MEMORY.true)
+returns c = let a = c.args in rw c.refused.ensures (blank-size a.memory.now a.t a.server
+    c.if-memory-ne-MEMORY.true)
 
 returns-2 : tie.Need-returns-then-outside
 returns-2 c =
-    let a = c.before.before.before.before.before.args in
+    let a = c.args in
     rw c.refused-then-outside.ensures
-    (blank-faults a.memory.now a.t a.server c.before.before.before.if-memory-ne-MEMORY.false
-    (sym c.before.before.outside.ensures ∙ c.before.if-outside.true))
+    (blank-faults a.memory.now a.t a.server c.if-memory-ne-MEMORY.false
+    (sym c.outside.ensures ∙ c.if-outside.true))
 
 cast-servers : tie.Need-overflow_cast-t
 cast-servers c = omega (arith, faults-byte (start-from-else2 c).args.t (faults-in c))
@@ -48,8 +48,8 @@ returns-3 : tie.Need-returns-then-outside-2
 returns-3 c =
     let at-else2 = c.before.before.before.before in
     let a = (start-from-else2 at-else2).args in
-    rw c.refused-then-outside-2.ensures (blank-server a.memory.now a.t a.server at-else2.before.before.if-memory-ne-MEMORY.false
-    (faults-in at-else2) (server-tested c.before.before ∙ c.before.if-outside-2.true))
+    rw c.refused-then-outside-2.ensures (blank-server a.memory.now a.t a.server at-else2.if-memory-ne-MEMORY.false
+    (faults-in at-else2) (server-tested c.before.before ∙ c.if-outside-2.true))
 
 abbrev else3-from-slice-known2 : tie.After-slice_known-2-1 → tie.Else-outside-2
 else3-from-slice-known2 c = c.before.before.before.before
@@ -78,8 +78,8 @@ returns-4 c =
     let at-else3 = else3-from-slice-known2 c in
     let at-else2 = at-else3.before.before.before in
     let a = (start-from-else2 at-else2).args in
-    blank-made a.memory.now a.t a.server at-else2.before.before.if-memory-ne-MEMORY.left (faults-in at-else2) (server-in at-else3)
-    c.before.before.clear.ensures
+    blank-made a.memory.now a.t a.server at-else2.if-memory-ne-MEMORY.left (faults-in at-else2) (server-in at-else3)
+    c.clear.ensures
 
 pub blank_spec : {M : Type 1} → statement M
 blank_spec = tie.close (tie.spec (λ c κs. search rules) returns (λ c κs. search rules) (λ c κs. search rules) returns-2 cast-servers

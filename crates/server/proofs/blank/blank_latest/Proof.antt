@@ -5,13 +5,13 @@ use Rattle.server.proofs.blank.blank_latest.Statement.{statement}
 use Rattle.server.proofs.blank.blank_latest.Tie as tie
 
 returns : tie.Need-returns-then-memory-ne-MEMORY
-returns c = rw c.refused.ensures (latest-size c.before.before.before.args.memory.now c.before.if-memory-ne-MEMORY.true)
+returns c = rw c.refused.ensures (latest-size c.args.memory.now c.if-memory-ne-MEMORY.true)
 
 returns-2 : tie.Need-returns-in_default
 returns-2 c =
     let at-else1 = c.before.before.before.before.before in
-    let m = rw c.before.enum_told-1.given.1 at c.before.before.before.«open».ensures in
-    rw c.refused-in_default.ensures (latest_broken at-else1.before.before.args.memory.now at-else1.if-memory-ne-MEMORY.false m)
+    let m = rw c.enum_told-1.given.1 at c.before.before.before.«open».ensures in
+    rw c.refused-in_default.ensures (latest_broken at-else1.args.memory.now at-else1.if-memory-ne-MEMORY.false m)
 
 returns-3 : tie.Need-returns
 returns-3 c =
@@ -19,8 +19,8 @@ returns-3 c =
     let at-opened = at-candidate-size.before.before.before.before in
     let at-else1 = at-opened.before.before.before.before in
     let m = rw at-opened.opened-1.given.1 at at-opened.before.before.«open».ensures in
-    latest-blanked at-else1.before.before.args.memory.now at-else1.if-memory-ne-MEMORY.false (λ i. (at-else1.before.slice_known-1.given i).fits) m
-    at-candidate-size.candidate_size.ensures c.before.before.before.part.ensures c.before.before.put.ensures
+    latest-blanked at-else1.args.memory.now at-else1.if-memory-ne-MEMORY.false (λ i. (at-else1.slice_known-1.given i).fits) m
+    at-candidate-size.candidate_size.ensures c.part.ensures c.put.ensures
 
 pub blank_latest_spec : {M : Type 1} → statement M
 blank_latest_spec = tie.close (tie.spec (λ c κs. search rules) returns (λ c κs. search rules) (λ c. search rules) (λ c. search rules)

@@ -21,19 +21,19 @@ loop-holds c = (omega arith, refl, refl)
 loop-again : tie.Need-loop-i-preserved invariant-loop decreases-loop
 loop-again c = (
   omega arith,
-  simp length-set c.before.loop-i.invariant.1,
-  ap (λ (z : List ℕ). set z c.before.loop-i.i 0) c.before.loop-i.invariant.2 ∙ fill_more c.before.loop-i.i 0
-      c.before.before.args.memory.now (omega arith),
+  simp length-set c.loop-i.invariant.1,
+  ap (λ (z : List ℕ). set z c.loop-i.i 0) c.loop-i.invariant.2 ∙ fill_more c.loop-i.i 0
+      c.args.memory.now (omega arith),
 )
 
 same_length : tie.Need-shape_of-memory invariant-loop decreases-loop
-same_length c = c.before.loop-i.invariant.1
+same_length c = c.loop-i.invariant.1
 
 returns : tie.Need-returns invariant-loop decreases-loop
 returns c =
-    let d = c.before.before.args.memory.now in
-    let e : c.before.loop-i.i ≡ length d = omega arith in
-    c.before.loop-i.invariant.2 ∙ rw (e, drop-length) (append-nil (replicate (length d) 0))
+    let d = c.args.memory.now in
+    let e : c.loop-i.i ≡ length d = omega arith in
+    c.loop-i.invariant.2 ∙ rw (e, drop-length) (append-nil (replicate (length d) 0))
 
 pub clear_spec : {M : Type 1} → statement M
 clear_spec = tie.close (tie.spec invariant-loop decreases-loop loop-holds (λ c. omega arith) (λ c. omega arith) (λ c. omega arith) loop-again same_length returns)

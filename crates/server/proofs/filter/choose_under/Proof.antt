@@ -19,7 +19,7 @@ decreases-loop memory prepared opened list count bound rank₀ rank = rank
 
 loop-holds : tie.Need-loop-rank-init invariant-loop decreases-loop
 loop-holds c =
-    let a = c.before.before.before.args in
+    let a = c.args in
     λ key made none. try-under a.memory.now key a.opened a.list.now a.count none c.next_rank-rank.ensures
 
 -- Places far back, each named once: the place, and from where it is seen.
@@ -31,8 +31,8 @@ returns c =
     let at-slot-with = c.before.before.before in
     let a = (start-from-slot-with at-slot-with).args in
     λ key made none. try-found a.memory.now key a.opened a.list.now a.count (omega arith)
-    (at-slot-with.before.before.loop-rank.invariant key made none) (omega arith) c.before.before.before.slot_with-i.ensures
-    c.before.before.slot.ensures (c.before.valid_prepared.ensures key made) c.if-valid_prepared.true
+    (at-slot-with.loop-rank.invariant key made none) (omega arith) c.slot_with-i.ensures
+    c.slot.ensures (c.valid_prepared.ensures key made) c.if-valid_prepared.true
 
 abbrev slot-with-from-next-rank2 : tie.After-next_rank-rank-in-loop-rank invariant-loop decreases-loop → tie.After-slot_with-i invariant-loop decreases-loop
 slot-with-from-next-rank2 c = c.before.before.before.before
@@ -48,14 +48,14 @@ loop-again c =
     let a = (start-from-slot-with at-slot-with).args in
     λ key made none. try-under a.memory.now key a.opened a.list.now a.count
     (none_from a.memory.now key a.opened a.list.now a.count (omega arith)
-    (at-slot-with.before.before.loop-rank.invariant key made none) (omega arith) at-slot-with.slot_with-i.ensures
-    c.before.before.before.slot.ensures (c.before.before.valid_prepared.ensures key made) c.before.if-valid_prepared.false) c.next_rank-rank-in-loop-rank.ensures
+    (at-slot-with.loop-rank.invariant key made none) (omega arith) at-slot-with.slot_with-i.ensures
+    c.slot.ensures (c.valid_prepared.ensures key made) c.if-valid_prepared.false) c.next_rank-rank-in-loop-rank.ensures
 
 returns-2 : tie.Need-returns invariant-loop decreases-loop
 returns-2 c =
-    let a = c.before.before.before.before.before.args in
+    let a = c.args in
     λ key made none. try_none a.memory.now key a.opened a.list.now a.count (omega arith)
-    (c.before.loop-rank.invariant key made none) (omega arith)
+    (c.loop-rank.invariant key made none) (omega arith)
 
 pub choose_under_spec : {M : Type 1} → statement M
 choose_under_spec = tie.close (tie.spec invariant-loop decreases-loop (λ c κs. search rules) loop-holds (λ c κs. search rules) (λ c κs. search rules)

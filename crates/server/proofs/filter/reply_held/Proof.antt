@@ -13,11 +13,11 @@ returns c =
     let at_part = c.before.before.before.before in
     let at-find = at_part.before.before.before.before.before in
     let at-shared-slice-known = shared-slice-known-from-find at-find in
-    let a = at-shared-slice-known.before.args in
+    let a = at-shared-slice-known.args in
     held-nothing a.memory.now (λ i. (at-shared-slice-known.shared_slice_known-1.given i).fits) a.head a.opened a.stamp a.out.now
-    at-find.before.before.held_head-nothing.ensures at-find.find.result at-find.find.ensures
-    at_part.before.before.before.enum_told-1.given.1 at_part.part.ensures
-    at_part.before.before.reply_head.ensures c.before.before.make_packet.ensures
+    at-find.held_head-nothing.ensures at-find.find.result at-find.find.ensures
+    at_part.enum_told-1.given.1 at_part.part.ensures
+    at_part.reply_head.ensures c.make_packet.ensures
 
 returns-2 : tie.Need-returns
 returns-2 c =
@@ -25,11 +25,11 @@ returns-2 c =
     let at_at = at-share-bytes.before.before.before.before.before in
     let at-find = at_at.before.before in
     let at-shared-slice-known = shared-slice-known-from-find at-find in
-    let a = at-shared-slice-known.before.args in
+    let a = at-shared-slice-known.args in
     held_share a.memory.now (λ i. (at-shared-slice-known.shared_slice_known-1.given i).fits) a.head a.opened a.stamp a.out.now
-    at-find.before.before.held_head-nothing.ensures at-find.find.result at-find.find.ensures at_at.at-1.given.1
-    at-share-bytes.before.before.before.held_head-bytes.ensures at-share-bytes.share_bytes.ensures
-    at-share-bytes.before.before.reply_head-2.ensures c.before.before.make_packet-2.ensures
+    at-find.held_head-nothing.ensures at-find.find.result at-find.find.ensures at_at.at-1.given.1
+    at-share-bytes.held_head-bytes.ensures at-share-bytes.share_bytes.ensures
+    at-share-bytes.reply_head-2.ensures c.make_packet-2.ensures
 
 pub reply_held_spec : {M : Type 1} → statement M
 reply_held_spec = tie.close (tie.spec (λ c κs. search rules) (λ c. search rules) (λ c κs. search rules) (λ c. search rules) (λ c. search rules)

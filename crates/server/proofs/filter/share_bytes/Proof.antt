@@ -9,8 +9,8 @@ returns : tie.Need-returns
 returns c =
     let at-start = c.before.before.before.before.before in
     bytes-made (shelf at-start.args.t) at-start.args.memory.now
-    at-start.args.at c.before.before.before.rest.ensures c.before.before.rest-share.ensures
-    c.before.share_size.ensures c.part.ensures
+    at-start.args.at c.rest.ensures c.rest-share.ensures
+    c.share_size.ensures c.part.ensures
 
 pub share_bytes_spec : {M : Type 1} → statement M
 share_bytes_spec = tie.close (tie.spec (λ c κs. search rules) (λ c κs. search rules) (λ c κs. search rules) (λ c κs. search rules) returns)

@@ -5,7 +5,7 @@ use Rattle.server.proofs.filter.share_size.Statement.{statement}
 use Rattle.server.proofs.filter.share_size.Tie as tie
 
 returns : tie.Need-returns
-returns c = size-made c.before.before.before.args.t c.before.before.before.args.share.now c.before.number2.ensures
+returns c = size-made c.args.t c.args.share.now c.number2.ensures
     c.share_size.ensures
 
 pub share_size_spec : {M : Type 1} → statement M

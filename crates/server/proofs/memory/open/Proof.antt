@@ -17,7 +17,7 @@ use Rattle.server.proofs.memory.open.Tie as tie
 
 module _ (c : tie.In-Value-2) where
   abbrev memory : List ℕ
-  memory = c.before.before.before.before.args.memory.now
+  memory = c.args.memory.now
 
   abbrev t : ℕ
   t = c.t-1.given.0.0
@@ -26,10 +26,10 @@ module _ (c : tie.In-Value-2) where
   past-t = c.t-1.given.0.1.0.at
 
   size_is : length memory ≡ memory_size
-  size_is = c.before.before.before.before.requires
+  size_is = c.requires
 
   t-took : TookAt (byte_l 1 top_faults) memory 0 t past-t
-  t-took = rw c.t-1.given.1 at c.before.before.byte_field.ensures
+  t-took = rw c.t-1.given.1 at c.byte_field.ensures
 
 -- Places far back, each named once: the place, and from where it is seen.
 abbrev t-from-server : tie.In-Value-byte_field-3 → tie.In-Value-2
@@ -40,16 +40,16 @@ module _ (c : tie.In-Value-byte_field-3) where
   after-t = t-from-server c
 
   abbrev servers : ℕ
-  servers = c.before.before.before.servers-servers.result
+  servers = c.servers-servers.result
 
   abbrev past-server : ℕ
   past-server = c.server-1.given.0.1.0.at
 
   servers-are : servers ≡ (shelf (t after-t)).servers
-  servers-are = c.before.before.before.servers-servers.ensures
+  servers-are = c.servers-servers.ensures
 
   server-took : TookAt (byte_l 1 servers) (memory after-t) (past-t after-t) c.server-1.given.0.0 past-server
-  server-took = rw c.server-1.given.1 at c.before.before.byte_field-2.ensures
+  server-took = rw c.server-1.given.1 at c.byte_field-2.ensures
 
 abbrev server-from-n : tie.In-Value-byte_field-2-2 → tie.In-Value-byte_field-3
 server-from-n c = c.before.before.before.before
@@ -62,7 +62,7 @@ module _ (c : tie.In-Value-byte_field-2-2) where
   past-n = c.n-1.given.0.1.0.at
 
   n-took : TookAt (byte_l 0 capacity) (memory (after-t after-server)) (past-server after-server) c.n-1.given.0.0 past-n
-  n-took = rw c.n-1.given.1 at c.before.before.byte_field-3.ensures
+  n-took = rw c.n-1.given.1 at c.byte_field-3.ensures
 
 module _ (c : tie.In-Value-any_candidate_field-2) where
   abbrev after-n : tie.In-Value-byte_field-2-2
@@ -73,12 +73,12 @@ module _ (c : tie.In-Value-any_candidate_field-2) where
 
   latest-took : TookLabelled (any_candidate_l (shelf (t first))) (memory first) (past-n after-n) c.c4-1.given.0.0 c.c4-1.given.0.1.0
       c.c4-1.given.0.1.1.0.at
-  latest-took = rw c.c4-1.given.1 at c.before.before.any_candidate_field.ensures
+  latest-took = rw c.c4-1.given.1 at c.any_candidate_field.ensures
 
 -- ---- the needs
 
 returns : tie.Need-returns-in_default
-returns c = no-t c.before.before.before.before.requires (rw c.enum_told-1.given.1 at c.before.before.byte_field.ensures)
+returns c = no-t c.requires (rw c.enum_told-1.given.1 at c.byte_field.ensures)
 
 cast-servers : tie.Need-overflow_cast-t
 cast-servers c = omega (arith, (byte_range 1 top_faults (t-took c.before)).1)
@@ -89,14 +89,14 @@ cast-byte-field-2 c = omega (arith, servers-most (byte_range 1 top_faults (t-too
 returns-2 : tie.Need-returns-in_default-byte_field
 returns-2 c =
     let p = c.before.before.before.before.before in
-    no-server (size_is p) (t-took p) c.before.before.before.servers-servers.ensures
-    (rw c.enum_told-in_default-byte_field-1.given.1 at c.before.before.byte_field-2.ensures)
+    no-server (size_is p) (t-took p) c.servers-servers.ensures
+    (rw c.enum_told-in_default-byte_field-1.given.1 at c.byte_field-2.ensures)
 
 returns-3 : tie.Need-returns-in_default-byte_field-2
 returns-3 c =
     let s = c.before.before.before.before in
     no-count (size_is (after-t s)) (t-took (after-t s)) (servers-are s) (server-took s)
-    (rw c.enum_told-in_default-byte_field-2-1.given.1 at c.before.before.byte_field-3.ensures)
+    (rw c.enum_told-in_default-byte_field-2-1.given.1 at c.byte_field-3.ensures)
 
 cast-any-candidate-field : tie.Need-overflow_cast-t-2
 cast-any-candidate-field c = omega (
@@ -110,7 +110,7 @@ returns-4 c =
     let m = c.before.before.before.before in
     let s = after-server m in
     no-latest (size_is (after-t s)) (t-took (after-t s)) (servers-are s) (server-took s) (n-took m)
-    (rw c.enum_told-in_default-any_candidate_field-1.given.1 at c.before.before.any_candidate_field.ensures)
+    (rw c.enum_told-in_default-any_candidate_field-1.given.1 at c.any_candidate_field.ensures)
 
 cast-check-writes : tie.Need-overflow_cast-t-3
 cast-check-writes c = omega (arith, (byte_range 1 top_faults (t-took (first c.before))).1)
@@ -134,7 +134,7 @@ returns-5 c =
     let s = after-server (after-n l) in
     no_writes (size_is (after-t s)) (t-took (after-t s)) (servers-are s) (server-took s) (n-took (after-n l))
     (latest-took l).took (λ i. ((first l).before.before.before.shared-slice-known.given i).fits) c.enum_told-in_default-check_writes-1.given.1
-    c.before.before.check_writes.ensures
+    c.check_writes.ensures
 
 abbrev c4-from-end : tie.In-Past-2 → tie.In-Value-any_candidate_field-2
 c4-from-end c = c.before.before.before.before
@@ -155,18 +155,18 @@ returns-6 c =
     let at-end = c.before.before.before.before in
     let l = c4-from-end at-end in
     let s = after-server (after-n l) in
-    let w = rw at-end.end-1.given.1 at at-end.before.before.check_writes.ensures in
+    let w = rw at-end.end-1.given.1 at at-end.check_writes.ensures in
     opens (size_is (after-t s)) (t-took (after-t s)) (servers-are s) (server-took s) (n-took (after-n l)) (latest-took l).took w
-    c.before.before.rest.ensures c.before.all_zero.ensures c.if-all_zero.true
+    c.rest.ensures c.all_zero.ensures c.if-all_zero.true
 
 returns-7 : tie.Need-returns
 returns-7 c =
     let at-end = c.before.before.before.before in
     let l = c4-from-end at-end in
     let s = after-server (after-n l) in
-    let w = rw at-end.end-1.given.1 at at-end.before.before.check_writes.ensures in
+    let w = rw at-end.end-1.given.1 at at-end.check_writes.ensures in
     no-tail (size_is (after-t s)) (t-took (after-t s)) (servers-are s) (server-took s) (n-took (after-n l))
-    (latest-took l).took w c.before.before.rest.ensures c.before.all_zero.ensures c.if-all_zero.false
+    (latest-took l).took w c.rest.ensures c.all_zero.ensures c.if-all_zero.false
 
 pub open_spec : {M : Type 1} → statement M
 open_spec = tie.close (tie.spec (λ c. search rules) (λ c κs. search rules) (λ c. search rules) (λ c. search rules) returns cast-servers

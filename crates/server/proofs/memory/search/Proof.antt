@@ -22,7 +22,7 @@ decreases-loop memory t n stamp frame at₀ i₀ at i = n - i
 
 add-frame : tie.Need-overflow_add-frame invariant-loop decreases-loop
 unfolding share_size_def shelf
-add-frame c = omega (arith, c.share_size-frame.ensures, no-fragment c.before.before.before.args.t)
+add-frame c = omega (arith, c.share_size-frame.ensures, no-fragment c.args.t)
 
 loop-holds : tie.Need-loop-i-init invariant-loop decreases-loop
 loop-holds c = (omega arith, walk_none _ _ _ _ c.writes_place-at.ensures)
@@ -36,23 +36,23 @@ at-loop-from-else1 c = c.before.before.before.before.before
 
 -- the bytes of the write at the place that the walk has reached
 size_is : (c : tie.After-fragment_size invariant-loop decreases-loop)
-    → stamp_size + (at-loop-from-else1 c.before.before.before).before.before.share_size-frame.result + c.fragment_size.result ≡
-    write_size (shelf (shared-slice-known-from-at-loop (at-loop-from-else1 c.before.before.before)).before.args.t)
+    → stamp_size + (at-loop-from-else1 c.before.before.before).share_size-frame.result + c.fragment_size.result ≡
+    write_size (shelf (shared-slice-known-from-at-loop (at-loop-from-else1 c.before.before.before)).args.t)
     (drop (at-loop-from-else1 c.before.before.before).loop-i.at
-    (shared-slice-known-from-at-loop (at-loop-from-else1 c.before.before.before)).before.args.memory.now)
+    (shared-slice-known-from-at-loop (at-loop-from-else1 c.before.before.before)).args.memory.now)
 size_is c =
     let at-else1 = c.before.before.before in
     let at-loop = at-loop-from-else1 at-else1 in
     let at-shared-slice-known = shared-slice-known-from-at-loop at-loop in
-    size-told at-shared-slice-known.before.args.t at-shared-slice-known.before.args.memory.now
-    at-loop.loop-i.at at-else1.before.before.before.rest-write.ensures c.before.before.rest-write.ensures c.before.number2-length.ensures
-    at-loop.before.before.share_size-frame.ensures c.fragment_size.ensures
+    size-told at-shared-slice-known.args.t at-shared-slice-known.args.memory.now
+    at-loop.loop-i.at at-else1.rest-write.ensures c.rest-write.ensures c.number2-length.ensures
+    at-loop.share_size-frame.ensures c.fragment_size.ensures
 
 returns : tie.Need-returns-then-same invariant-loop decreases-loop
 returns c =
     let at-loop = c.before.before.before.before.before in
     walk-found at-loop.loop-i.invariant.1 (λ i. ((shared-slice-known-from-at-loop at-loop).shared_slice_known-1.given i).fits) (omega arith)
-    c.before.before.before.rest-write.ensures c.before.before.part.ensures c.before.same.ensures c.if-same.true
+    c.rest-write.ensures c.part.ensures c.same.ensures c.if-same.true
 
 add-size : tie.Need-overflow_add-size invariant-loop decreases-loop
 unfolding share_size_def shelf
@@ -62,10 +62,10 @@ add-size c =
     let at-shared-slice-known = shared-slice-known-from-at-loop at-loop in
     omega (
       arith,
-      at-loop.before.before.share_size-frame.ensures,
+      at-loop.share_size-frame.ensures,
       c.fragment_size.ensures,
-      fragment-few at-shared-slice-known.before.args.t c.before.number2-length.result,
-      no-fragment at-shared-slice-known.before.args.t,
+      fragment-few at-shared-slice-known.args.t c.number2-length.result,
+      no-fragment at-shared-slice-known.args.t,
     )
 
 returns-2 : tie.Need-returns-then-write-size invariant-loop decreases-loop
@@ -73,7 +73,7 @@ returns-2 c =
     let at-else1 = c.before.before.before.before in
     let at-loop = at-loop-from-else1 at-else1 in
     walk_short at-loop.loop-i.invariant.1 (λ i. ((shared-slice-known-from-at-loop at-loop).shared_slice_known-1.given
-    i).fits) (omega arith) at-else1.before.before.before.rest-write.ensures (size_is c.before) c.if-write-size.true
+    i).fits) (omega arith) at-else1.rest-write.ensures (size_is c.before) c.if-write-size.true
 
 abbrev else1-from-else2 : tie.Else-write-size invariant-loop decreases-loop → tie.Else-same invariant-loop decreases-loop
 else1-from-else2 c = c.before.before.before.before
@@ -85,9 +85,9 @@ add_at c =
     let at-loop = at-loop-from-else1 at-else1 in
     omega (
       arith,
-      at-loop.before.before.share_size-frame.ensures,
-      ap length at-else1.before.before.before.rest-write.ensures,
-      length-drop at-loop.loop-i.at (shared-slice-known-from-at-loop at-loop).before.args.memory.now,
+      at-loop.share_size-frame.ensures,
+      ap length at-else1.rest-write.ensures,
+      length-drop at-loop.loop-i.at (shared-slice-known-from-at-loop at-loop).args.memory.now,
       c.if-write-size.false,
     )
 
@@ -97,12 +97,12 @@ loop-again c =
     let at-loop = at-loop-from-else1 at-else1 in (
       omega arith,
       walk_more at-loop.loop.invariant.1 (λ i. ((shared-slice-known-from-at-loop at-loop).shared_slice_known-1.given
-          i).fits) (omega arith) at-else1.before.before.before.rest-write.ensures
-          at-else1.before.before.part.ensures at-else1.before.same.ensures at-else1.if-same.left (size_is c.before),
+          i).fits) (omega arith) at-else1.rest-write.ensures
+          at-else1.part.ensures at-else1.same.ensures at-else1.if-same.left (size_is c.before),
     )
 
 returns-3 : tie.Need-returns invariant-loop decreases-loop
-returns-3 c = walk_end c.before.loop-i.invariant.1 (omega arith)
+returns-3 c = walk_end c.loop-i.invariant.1 (omega arith)
 
 pub search_spec : {M : Type 1} → statement M
 search_spec = tie.close (tie.spec invariant-loop decreases-loop (λ c κs. search rules) add-frame (λ c κs. search rules) loop-holds (λ c κs. search rules)

@@ -23,15 +23,15 @@ loop-again : tie.Need-loop-i-preserved invariant-loop decreases-loop
 loop-again c =
     let at-loop = c.before.before.before.before in (
       omega arith,
-      next_more (shelf at-loop.before.before.args.t)
-          at-loop.before.before.args.list.now at-loop.loop-i.i at-loop.before.before.args.bound at-loop.loop-i.invariant.1
-          c.before.before.rank_at.ensures c.before.under.ensures c.max_of-best.ensures,
+      next_more (shelf at-loop.args.t)
+          at-loop.args.list.now at-loop.loop-i.i at-loop.args.bound at-loop.loop-i.invariant.1
+          c.rank_at.ensures c.under.ensures c.max_of-best.ensures,
     )
 
 returns : tie.Need-returns invariant-loop decreases-loop
-returns c = let e : c.before.loop-i.i ≡ c.before.before.before.args.n = omega arith in subst
-    (λ (z : ℕ). c.before.loop-i.best ≡ next_rank_def (shelf c.before.before.before.args.t) c.before.before.before.args.list.now z
-    c.before.before.before.args.bound) e c.before.loop-i.invariant.1
+returns c = let e : c.loop-i.i ≡ c.args.n = omega arith in subst
+    (λ (z : ℕ). c.loop-i.best ≡ next_rank_def (shelf c.args.t) c.args.list.now z
+    c.args.bound) e c.loop-i.invariant.1
 
 pub next_rank_spec : {M : Type 1} → statement M
 next_rank_spec = tie.close (tie.spec invariant-loop decreases-loop loop-holds (λ c κs. search rules) (λ c κs. search rules) (λ c κs. search rules)

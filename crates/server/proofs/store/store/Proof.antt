@@ -12,15 +12,15 @@ start-from-rest c = c.before.before.before.before
 returns : tie.Need-returns-in_default
 returns c =
     let at-enum-told2 = c.before.before.before.before in
-    let at_rest = at-enum-told2.before.before.before.before in
+    let at_rest = at-enum-told2.before.before.before in
     λ key o own dec k room.
     let a = (start-from-rest at_rest).args in
-    answer-held (λ i. (at_rest.before.before.before.slice_known-1.given i).fits) a.packet.now
-    (λ i. (at_rest.before.before.shared_slice_known-1.given i).fits) a.out.now a.head key o own dec k room at_rest.rest-write.ensures
-    at-enum-told2.before.before.find.ensures at-enum-told2.enum_told-in_default-1.given.1 c.before.before.store_reply.ensures
+    answer-held (λ i. (at_rest.slice_known-1.given i).fits) a.packet.now
+    (λ i. (at_rest.shared_slice_known-1.given i).fits) a.out.now a.head key o own dec k room at_rest.rest-write.ensures
+    at-enum-told2.find.ensures at-enum-told2.enum_told-in_default-1.given.1 c.store_reply.ensures
 
 abbrev rest-from-enum-told : tie.In-Nothing → tie.After-rest-write
-rest-from-enum-told c = c.before.before.before.before
+rest-from-enum-told c = c.before.before.before
 
 returns-2 : tie.Need-returns-then-opened-ge-CAPACITY
 returns-2 c =
@@ -28,9 +28,9 @@ returns-2 c =
     let at_rest = rest-from-enum-told at-enum-told in
     λ key o own dec k room.
     let a = (start-from-rest at_rest).args in
-    answer_full (λ i. (at_rest.before.before.before.slice_known-1.given i).fits) a.packet.now
-    (λ i. (at_rest.before.before.shared_slice_known-1.given i).fits) a.out.now a.head key o own dec k room at_rest.rest-write.ensures
-    at-enum-told.before.before.find.ensures at-enum-told.enum_told-1.given.1 (omega arith) c.before.before.store_reply-then-opened-ge-CAPACITY.ensures
+    answer_full (λ i. (at_rest.slice_known-1.given i).fits) a.packet.now
+    (λ i. (at_rest.shared_slice_known-1.given i).fits) a.out.now a.head key o own dec k room at_rest.rest-write.ensures
+    at-enum-told.find.ensures at-enum-told.enum_told-1.given.1 (omega arith) c.store_reply-then-opened-ge-CAPACITY.ensures
 
 returns-3 : tie.Need-returns
 returns-3 c =
@@ -39,9 +39,9 @@ returns-3 c =
     let at_rest = rest-from-enum-told at-enum-told in
     λ key o own dec k room.
     let a = (start-from-rest at_rest).args in
-    answer-kept (λ i. (at_rest.before.before.before.slice_known-1.given i).fits) a.packet.now (λ i. (at_rest.before.before.shared_slice_known-1.given i).fits) a.out.now a.head key o own dec k room at_rest.rest-write.ensures
-    at-enum-told.before.before.find.ensures at-enum-told.enum_told-1.given.1 (omega arith)
-    at-keep-write.keep_write.ensures c.before.before.store_reply-2.ensures
+    answer-kept (λ i. (at_rest.slice_known-1.given i).fits) a.packet.now (λ i. (at_rest.shared_slice_known-1.given i).fits) a.out.now a.head key o own dec k room at_rest.rest-write.ensures
+    at-enum-told.find.ensures at-enum-told.enum_told-1.given.1 (omega arith)
+    at-keep-write.keep_write.ensures c.store_reply-2.ensures
 
 pub store_spec : {M : Type 1} → statement M
 store_spec = tie.close (tie.spec (λ c κs. search rules) (λ c κs. search rules) (λ c. search rules) (λ c. search rules) (λ c κs. search rules)

@@ -21,7 +21,7 @@ returns : tie.Need-returns-in-1
 returns c =
     let at-clock = c.before.before in
     let at-arm = at-clock.before.before.before in
-    let a = (start-from-head at-arm.before).args in
+    let a = (start-from-head at-arm).args in
     λ o own dec sent room. at-clock.clock.ensures a.packet.now a.key a.opened o own dec at-arm.match.keys1 room
 
 returns-2 : tie.Need-returns-in-3
@@ -42,13 +42,13 @@ returns-4 : tie.Need-returns-in-7
 returns-4 c =
     let at-collect = c.before.before in
     let at-arm = at-collect.before.before.before in
-    let a = (start-from-head at-arm.before).args in
+    let a = (start-from-head at-arm).args in
     λ o own dec sent room. at-collect.collect.ensures a.packet.now a.key a.opened o own dec at-arm.match.keys4 room
 
 returns-5 : tie.Need-returns-in-9
 returns-5 c =
     let at-filter = c.before.before.before.before in
-    λ o own dec sent room. at-filter.filter.ensures o own dec at-filter.before.before.before.in-9.keys5 room
+    λ o own dec sent room. at-filter.filter.ensures o own dec at-filter.in-9.keys5 room
 
 returns-6 : tie.Need-returns-in_default
 returns-6 c =

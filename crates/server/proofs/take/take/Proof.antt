@@ -8,8 +8,8 @@ use Rattle.server.proofs.take.take.Statement.{statement}
 use Rattle.server.proofs.take.take.Tie as tie
 
 returns : tie.Need-returns-then-memory-ne-MEMORY
-returns c = let a = c.before.before.before.before.before.args in take-size a.memory.now a.key.now a.packet.now a.out.now
-    c.before.if-memory-ne-MEMORY.true c.refused.ensures
+returns c = let a = c.args in take-size a.memory.now a.key.now a.packet.now a.out.now
+    c.if-memory-ne-MEMORY.true c.refused.ensures
 
 -- Places far back, each named once: the place, and from where it is seen.
 abbrev start-from-else1 : tie.Else-memory-ne-MEMORY → tie.Start
@@ -17,13 +17,13 @@ start-from-else1 c = c.before.before.before.before
 
 returns-2 : tie.Need-returns-in_default
 returns-2 c =
-    let at-else1 = c.before.before.before.before.before in
+    let at-else1 = c.before.before.before.before in
     let a = (start-from-else1 at-else1).args in
     take_broken a.memory.now a.key.now a.packet.now a.out.now at-else1.if-memory-ne-MEMORY.false
-    (rw c.before.enum_told-1.given.1 at c.before.before.before.«open».ensures) c.refused-in_default.ensures
+    (rw c.enum_told-1.given.1 at c.before.before.before.«open».ensures) c.refused-in_default.ensures
 
 abbrev else1-from-opened : tie.In-Value-2 → tie.Else-memory-ne-MEMORY
-else1-from-opened c = c.before.before.before.before
+else1-from-opened c = c.before.before.before
 
 opens : (c : tie.In-Value-2) → OpenedAs (start-from-else1 (else1-from-opened c)).args.memory.now c.opened-1.given.0.0
 opens c = rw c.opened-1.given.1 at c.before.before.«open».ensures
@@ -35,7 +35,7 @@ returns-3 c =
     let a = (start-from-else1 at-else1).args in
     let m = opens at-opened in
     take_unread a.memory.now a.key.now a.packet.now a.out.now at-else1.if-memory-ne-MEMORY.left m
-    (rw c.before.enum_told-in_default-read_packet-1.given.1 at c.before.before.before.read_packet.ensures) c.refused-in_default-read_packet.ensures
+    (rw c.enum_told-in_default-read_packet-1.given.1 at c.read_packet.ensures) c.refused-in_default-read_packet.ensures
 
 abbrev opened-from-passed : tie.In-Value-read_packet-2 → tie.In-Value-2
 opened-from-passed c = c.before.before.before.before
@@ -45,37 +45,37 @@ module _ (c : tie.In-Value-read_packet-2) where
   passed = c.passed-1.given.0.0
 
   read : TookPacket (start-from-else1 (else1-from-opened (opened-from-passed c))).args.packet.now passed.head passed.label passed.number
-  read = rw c.passed-1.given.1 at c.before.before.read_packet.ensures
+  read = rw c.passed-1.given.1 at c.read_packet.ensures
 
 returns-4 : tie.Need-returns-then-number-ne0
 returns-4 c =
-    let at-passed = c.before.before.before.before in
+    let at-passed = c.before.before.before.before.before.before in
     let at-opened = opened-from-passed at-passed in
     let at-else1 = else1-from-opened at-opened in
     let a = (start-from-else1 at-else1).args in
     let m = opens at-opened in
     let p = read at-passed in
     take-refused a.memory.now a.key.now a.packet.now a.out.now at-else1.if-memory-ne-MEMORY.left m _ p.packet
-    (c.before.before.refusal-number.ensures a.packet.now p.label) c.before.if-number-ne0.true c.refused-then-number-ne0.ensures
+    (c.refusal-number.ensures a.packet.now p.label) c.if-number-ne0.true c.refused-then-number-ne0.ensures
 
 answer-requires : tie.Need-answer-requires
 answer-requires c κs =
     let at-else2 = c.before.before.before in
-    let at-passed = at-else2.before.before.before in
+    let at-passed = at-else2.before.before.before.before.before in
     (server_least (opens (opened-from-passed at-passed)), (read at-passed).number)
 
 returns-5 : tie.Need-returns
 returns-5 c =
     let at-answer = c.before.before.before.before in
     let at-else2 = at-answer.before.before.before.before in
-    let at-passed = at-else2.before.before.before in
+    let at-passed = at-else2.before.before.before.before.before in
     let at-opened = opened-from-passed at-passed in
     let at-else1 = else1-from-opened at-opened in
     let a = (start-from-else1 at-else1).args in
     let m = opens at-opened in
     let p = read at-passed in
     take-answered a.memory.now a.key.now a.packet.now a.out.now at-else1.if-memory-ne-MEMORY.left m _ p.packet
-    (at-else2.before.refusal-number.ensures a.packet.now p.label)
+    (at-else2.refusal-number.ensures a.packet.now p.label)
     at-else2.if-number-ne0.false at-answer.answer.ensures
 
 pub take_spec : {M : Type 1} → statement M

@@ -8,10 +8,10 @@ use Rattle.server.proofs.valid.nonce_digest.Tie as tie
 returns : tie.Need-returns
 returns c =
     let at-fragment-size = c.before.before.before.before in
-    digest_at (shelf at-fragment-size.before.before.before.args.t)
-    at-fragment-size.before.before.before.args.share.now at-fragment-size.before.number2.ensures
-    at-fragment-size.fragment_size-size.ensures c.before.digests_size.ensures c.before.before.before.rest.ensures
-    c.before.before.rest-2.ensures c.part.ensures
+    digest_at (shelf at-fragment-size.args.t)
+    at-fragment-size.args.share.now at-fragment-size.number2.ensures
+    at-fragment-size.fragment_size-size.ensures c.digests_size.ensures c.rest.ensures
+    c.rest-2.ensures c.part.ensures
 
 pub nonce_digest_spec : {M : Type 1} → statement M
 nonce_digest_spec = tie.close (tie.spec (λ c κs. search rules) (λ c κs. search rules) (λ c κs. search rules) (λ c κs. search rules)

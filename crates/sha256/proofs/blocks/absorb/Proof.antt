@@ -24,7 +24,7 @@ unfolding hashed
 loop-again c = (omega arith, rw add-one (cc))
 
 returns : tie.Need-returns invariant-loop decreases-loop
-returns c = let e : c.before.loop-j.j ≡ length c.before.before.before.args.m.now / 64 = omega arith in rw e at c.before.loop-j.invariant.1
+returns c = let e : c.loop-j.j ≡ length c.args.m.now / 64 = omega arith in rw e at c.loop-j.invariant.1
 
 pub absorb_spec : {M : Type 1} → statement M
 absorb_spec = tie.close (tie.spec invariant-loop decreases-loop loop-holds (λ c κs. search rules) (λ c. search rules) (λ c. search rules) loop-again returns)

@@ -21,12 +21,12 @@ loop-holds c = (omega arith, refl, refl)
 
 loop-again : tie.Need-loop-i-preserved invariant-loop decreases-loop
 loop-again c =
-    let at = c.before.before.loop-i in
+    let at = c.loop-i in
     (omega arith, simp length-set at.invariant.1, tab_more at.i _ at.w _ (omega arith) at.invariant.2 c.word.ensures)
 
 returns : tie.Need-returns invariant-loop decreases-loop
 unfolding block
-returns c = let e : c.before.loop-i.i ≡ 16 = omega arith in tab_all 16 _ _ c.before.loop-i.invariant.1 (rw e at c.before.loop-i.invariant.2)
+returns c = let e : c.loop-i.i ≡ 16 = omega arith in tab_all 16 _ _ c.loop-i.invariant.1 (rw e at c.loop-i.invariant.2)
 
 pub words_spec : {M : Type 1} → statement M
 words_spec = tie.close (tie.spec invariant-loop decreases-loop loop-holds (λ c. search rules) (λ c. search rules) (λ c. search rules) (λ c κs. search rules)

@@ -26,20 +26,20 @@ joined-zero-requires c κs = tt
 returns : tie.Need-returns-then-not-joined_zero invariant-loop decreases-loop
 returns c =
     let at-loop = c.before.before.before.before in
-    let s = at-loop.before.before.args.s.now in
+    let s = at-loop.args.s.now in
     let l = at-loop.loop-at in
-    sym (l.invariant.1 ∙ chunk-other s l.at (l.at + 256 - l.at) (sym c.before.joined_zero.ensures ∙ not-true c.before.joined_zero.result
+    sym (l.invariant.1 ∙ chunk-other s l.at (l.at + 256 - l.at) (sym c.joined_zero.ensures ∙ not-true c.joined_zero.result
     c.if-not-joined_zero.true))
 
 loop-again : tie.Need-loop-at-preserved invariant-loop decreases-loop
 loop-again c =
     let at-loop = c.before.before.before.before in
-    let s = at-loop.before.before.args.s.now in
+    let s = at-loop.args.s.now in
     let l = at-loop.loop-at in
     let e : l.at + (l.at + 256 - l.at) ≡ l.at + 256 = omega arith in (
       omega arith,
-      l.invariant.1 ∙ (chunk-zero s l.at (l.at + 256 - l.at) (sym c.before.joined_zero.ensures ∙ not-false
-          c.before.joined_zero.result c.if-not-joined_zero.false) ∙ ap (λ (k : ℕ). zeros (drop k s)) e),
+      l.invariant.1 ∙ (chunk-zero s l.at (l.at + 256 - l.at) (sym c.joined_zero.ensures ∙ not-false
+          c.joined_zero.result c.if-not-joined_zero.false) ∙ ap (λ (k : ℕ). zeros (drop k s)) e),
     )
 
 joined-zero-requires-2 : tie.Need-joined_zero-requires-2 invariant-loop decreases-loop
@@ -47,8 +47,8 @@ joined-zero-requires-2 c κs = tt
 
 returns-2 : tie.Need-returns invariant-loop decreases-loop
 returns-2 c =
-    let s = c.before.before.before.before.before.args.s.now in
-    let l = c.before.before.before.loop-at in
+    let s = c.args.s.now in
+    let l = c.loop-at in
     c.joined_zero-2.ensures ∙ (ap zeros (take_all (length s - l.at) (drop l.at s) (omega (arith, length-drop l.at s))) ∙ sym l.invariant.1)
 
 pub all_zero_spec : {M : Type 1} → statement M

@@ -11,7 +11,7 @@ returns : tie.Need-returns-then-at-s
 returns c = search rules
 
 returns-2 : tie.Need-returns-else-at-s
-returns-2 c = sym (get_d_past c.before.args.s.now c.before.args.at (omega arith))
+returns-2 c = sym (get_d_past c.args.s.now c.args.at (omega arith))
 
 pub byte_at_spec : {M : Type 1} → statement M
 byte_at_spec = tie.close (tie.spec (λ c. search rules) returns returns-2)

@@ -23,12 +23,12 @@ loop-holds c = (omega arith, refl)
 loop-again : tie.Need-loop-i-preserved invariant-loop decreases-loop
 loop-again c = (
   omega arith,
-  c.before.before.loop-i.invariant.1 ∙ zeros_more c.before.before.before.args.s.now c.before.before.loop-i.i
-      c.before.before.loop-i.all (omega arith),
+  c.loop-i.invariant.1 ∙ zeros_more c.args.s.now c.loop-i.i
+      c.loop-i.all (omega arith),
 )
 
 returns : tie.Need-returns invariant-loop decreases-loop
-returns c = sym (c.before.loop-i.invariant.1 ∙ zeros-end c.before.before.args.s.now c.before.loop-i.i c.before.loop-i.all (omega arith))
+returns c = sym (c.loop-i.invariant.1 ∙ zeros-end c.args.s.now c.loop-i.i c.loop-i.all (omega arith))
 
 pub joined_zero_spec : {M : Type 1} → statement M
 joined_zero_spec = tie.close (tie.spec invariant-loop decreases-loop loop-holds (λ c. omega arith) (λ c. omega arith) (λ c. omega arith) loop-again returns)

@@ -7,8 +7,8 @@ use Rattle.wire.proofs.bytes.nonce_of.Statement.{statement}
 use Rattle.wire.proofs.bytes.nonce_of.Tie as tie
 
 returns : tie.Need-returns
-returns c = placed-padded nonce_size c.before.before.before.before.before.args.s.now 0 c.before.before.part.ensures
-    c.before.put.ensures
+returns c = placed-padded nonce_size c.args.s.now 0 c.part.ensures
+    c.put.ensures
 
 pub nonce_of_spec : {M : Type 1} → statement M
 nonce_of_spec = tie.close (tie.spec (λ c. search rules) (λ c κs. search rules) (λ c κs. search rules) returns)

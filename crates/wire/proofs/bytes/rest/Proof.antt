@@ -8,10 +8,10 @@ use Rattle.wire.proofs.bytes.rest.Statement.{statement}
 use Rattle.wire.proofs.bytes.rest.Tie as tie
 
 returns : tie.Need-returns-then-s-at
-returns c = rest_past c.before.before.args.s.now c.before.before.args.at (omega arith)
+returns c = rest_past c.args.s.now c.args.at (omega arith)
 
 returns-2 : tie.Need-returns
-returns-2 c = rest-whole c.before.before.args.s.now c.before.before.args.at _ refl
+returns-2 c = rest-whole c.args.s.now c.args.at _ refl
 
 pub rest_spec : {M : Type 1} → statement M
 rest_spec = tie.close (tie.spec (λ c. search rules) returns (λ c. search rules) (λ c. search rules) (λ c. search rules) returns-2)

@@ -23,7 +23,7 @@ abbrev start-from-loop : tie.At-loop-i invariant-loop decreases-loop → tie.Sta
 start-from-loop c = c.before.before
 
 returns : tie.Need-returns-then-a-b invariant-loop decreases-loop
-returns c = let a = c.before.args in sym (lengths_differ a.a.now a.b.now c.if-a-b.true)
+returns c = let a = c.args in sym (lengths_differ a.a.now a.b.now c.if-a-b.true)
 
 loop-holds : tie.Need-loop-i-init invariant-loop decreases-loop
 loop-holds c = (omega arith, refl)
@@ -38,7 +38,7 @@ loop-again c =
 returns-2 : tie.Need-returns invariant-loop decreases-loop
 returns-2 c =
     let a = (start-from-loop c.before).args in
-    let l = c.before.loop-i in
+    let l = c.loop-i in
     sym (l.invariant.1 ∙ same_end a.a.now a.b.now l.i l.all (omega arith) (omega arith))
 
 pub same_throughout_spec : {M : Type 1} → statement M

@@ -11,11 +11,11 @@ returns : tie.Need-returns-then-s-at
 returns c = ends (byte-numbered _ _) _ _ (simp length-drop (omega arith))
 
 cast-ranged : tie.Need-overflow_cast-s
-cast-ranged c = let h = c.shared_slice_known-2-1.given c.before.before.before.args.c.at in search rules
+cast-ranged c = let h = c.shared_slice_known-2-1.given c.args.c.at in search rules
 
 returns-2 : tie.Need-returns
 returns-2 c =
-    let a = c.before.before.before.before.args in
+    let a = c.args in
     answers (byte-numbered _ _) _ _ (simp length-drop (omega arith)) c.ranged.result (here a.s.now a.c.at) c.ranged.ensures
 
 pub byte_field_spec : {M : Type 1} → statement M

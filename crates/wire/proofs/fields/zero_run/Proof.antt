@@ -13,16 +13,16 @@ returns c = inl c.if-s-at.true
 
 returns-2 : tie.Need-returns-then-all_zero
 returns-2 c =
-    let a = c.before.before.before.before.before.args in
+    let a = c.args in
     let e : a.c.at + a.n - a.c.at ≡ a.n = omega arith in
-    let z = rw e at c.before.all_zero.ensures in
+    let z = rw e at c.all_zero.ensures in
     record { zero = sym z ∙ c.if-all_zero.true; within = omega arith; place = refl }
 
 returns-3 : tie.Need-returns
 returns-3 c =
-    let a = c.before.before.before.before.before.args in
+    let a = c.args in
     let e : a.c.at + a.n - a.c.at ≡ a.n = omega arith in
-    let z = rw e at c.before.all_zero.ensures in
+    let z = rw e at c.all_zero.ensures in
     inr (omega arith, sym z ∙ c.if-all_zero.false)
 
 pub zero_run_spec : {M : Type 1} → statement M

@@ -23,30 +23,30 @@ loop-holds c = (omega arith, paste-zero c.args.out.now c.args.at c.args.bytes.no
 slice-write-out : tie.Need-bounds-out-at invariant-loop decreases-loop
 slice-write-out c = omega (
   arith,
-  ap length c.before.before.loop-i.invariant.1,
-  length-paste c.before.before.before.args.out.now
-      c.before.before.before.args.at c.before.before.before.args.bytes.now c.before.before.loop-i.i (omega arith) (omega arith),
+  ap length c.loop-i.invariant.1,
+  length-paste c.args.out.now
+      c.args.at c.args.bytes.now c.loop-i.i (omega arith) (omega arith),
 )
 
 loop-again : tie.Need-loop-i-preserved invariant-loop decreases-loop
 loop-again c =
-    let a = c.before.before.before.args in
-    let i = c.before.before.loop-i.i in (
+    let a = c.args in
+    let i = c.loop-i.i in (
       omega arith,
-      ap (λ (z : List ℕ). set z (a.at + i) (get_or a.bytes.now i 0)) c.before.before.loop-i.invariant.1 ∙ paste-suc a.out.now a.at
+      ap (λ (z : List ℕ). set z (a.at + i) (get_or a.bytes.now i 0)) c.loop-i.invariant.1 ∙ paste-suc a.out.now a.at
           a.bytes.now i 0 (omega arith) (omega arith)
           ∙ ap (paste a.out.now a.at a.bytes.now) (sym (add-one i)),
     )
 
 same_length : tie.Need-shape_of-out invariant-loop decreases-loop
-same_length c = ap length c.before.loop-i.invariant.1 ∙ length-paste c.before.before.args.out.now c.before.before.args.at
-    c.before.before.args.bytes.now c.before.loop-i.i (omega arith) (omega arith)
+same_length c = ap length c.loop-i.invariant.1 ∙ length-paste c.args.out.now c.args.at
+    c.args.bytes.now c.loop-i.i (omega arith) (omega arith)
 
 returns : tie.Need-returns invariant-loop decreases-loop
 returns c =
-    let a = c.before.before.args in
-    let e : c.before.loop-i.i ≡ length a.bytes.now = omega arith in
-    rw (c.before.loop-i.invariant.1, e) (wrote-copy a.out.now a.at a.bytes.now)
+    let a = c.args in
+    let e : c.loop-i.i ≡ length a.bytes.now = omega arith in
+    rw (c.loop-i.invariant.1, e) (wrote-copy a.out.now a.at a.bytes.now)
 
 pub copy_spec : {M : Type 1} → statement M
 copy_spec = tie.close (tie.spec invariant-loop decreases-loop loop-holds (λ c. omega arith) (λ c. omega arith) slice-write-out (λ c. omega arith) (λ c. omega arith)

@@ -7,13 +7,13 @@ use Rattle.wire.proofs.make.put.Statement.{statement}
 use Rattle.wire.proofs.make.put.Tie as tie
 
 returns : tie.Need-returns-then-out-at
-returns c = let a = c.before.before.before.args in none-placed a.out.now a.at a.bytes.now (omega arith)
+returns c = let a = c.args in none-placed a.out.now a.at a.bytes.now (omega arith)
 
 returns-2 : tie.Need-returns-then-out-at-2
-returns-2 c = let a = c.before.before.before.before.args in none-placed a.out.now a.at a.bytes.now (omega arith)
+returns-2 c = let a = c.args in none-placed a.out.now a.at a.bytes.now (omega arith)
 
 returns-3 : tie.Need-returns
-returns-3 c = wrote-placed c.before.before.copy.ensures (omega arith)
+returns-3 c = wrote-placed c.copy.ensures (omega arith)
 
 pub put_spec : {M : Type 1} → statement M
 put_spec = tie.close (tie.spec returns (λ c. search rules) returns-2 (λ c κs. search rules) (λ c. search rules) returns-3)

@@ -7,16 +7,16 @@ use Rattle.wire.proofs.make.put_head.Statement.{statement}
 use Rattle.wire.proofs.make.put_head.Tie as tie
 
 returns : tie.Need-returns-then-out-at
-returns c = let a = c.before.before.args in no-head a.head a.out.now a.at (omega arith)
+returns c = let a = c.args in no-head a.head a.out.now a.at (omega arith)
 
 returns-2 : tie.Need-returns-then-out-at-lt-HEAD
-returns-2 c = let a = c.before.before.before.args in no-head a.head a.out.now a.at (omega arith)
+returns-2 c = let a = c.args in no-head a.head a.out.now a.at (omega arith)
 
 returns-3 : tie.Need-returns
 returns-3 c =
     let at-put-number4 = c.before.before in
     let at-put = at-put-number4.before.before.before.before in
-    let a = at-put.before.before.before.before.before.before.args in
+    let a = at-put.args in
     head-placed a.head a.out.now a.at (omega arith) at-put.put-a.ensures at-put-number4.put_number4.ensures
 
 pub put_head_spec : {M : Type 1} → statement M

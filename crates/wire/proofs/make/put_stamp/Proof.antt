@@ -13,11 +13,11 @@ tag-size : (c : tie.Start) → length c.args.stamp.tag ≡ tag_size
 tag-size c = search rules
 
 returns : tie.Need-returns-then-out-at
-returns c = let a = c.before.before.args in no-stamp a.stamp a.out.now a.at (tag-size c.before.before) (omega arith)
+returns c = let a = c.args in no-stamp a.stamp a.out.now a.at (tag-size c.before.before) (omega arith)
 
 returns-2 : tie.Need-returns-then-out-at-lt-STAMP
 returns-2 c =
-    let a = c.before.before.before.args in
+    let a = c.args in
     no-stamp a.stamp a.out.now a.at (tag-size c.before.before.before) (omega arith)
 
 returns-3 : tie.Need-returns

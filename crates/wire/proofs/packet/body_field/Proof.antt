@@ -18,63 +18,63 @@ use Rattle.wire.proofs.packet.body_field.Tie as tie
 returns : tie.Need-returns-in-2
 unfolding body_at body_label body_number
 returns c =
-    let a = c.before.before.before.args in
+    let a = c.args in
     let s = shelf a.t in
-    of_part s a.s.now a.c.at any_stamp_l (clock-reply-kind s) (λ d. refl) (λ d. refl) c.before.in-2.keys1 (λ d. refl)
+    of_part s a.s.now a.c.at any_stamp_l (clock-reply-kind s) (λ d. refl) (λ d. refl) c.in-2.keys1 (λ d. refl)
     c.any_stamp_field.result c.any_stamp_field.ensures
 
 returns-2 : tie.Need-returns-in-3
 unfolding body_at body_label body_number write_at_def length_at share_at share_of_size
 returns-2 c =
-    let a = c.before.before.before.args in
+    let a = c.args in
     let s = shelf a.t in
-    of_part s a.s.now a.c.at (write_l s) (store-kind s) (λ d. refl) (λ d. refl) c.before.in-3.keys2 (λ d. refl) c.write_field.result
+    of_part s a.s.now a.c.at (write_l s) (store-kind s) (λ d. refl) (λ d. refl) c.in-3.keys2 (λ d. refl) c.write_field.result
     c.write_field.ensures
 
 returns-3 : tie.Need-returns-in-4
 unfolding body_at body_label body_number
 returns-3 c =
-    let a = c.before.before.before.before.args in
+    let a = c.args in
     let s = shelf a.t in
-    of_field s a.s.now a.c.at code_l (store-reply-kind s) (λ d. refl) (λ d. refl) c.before.before.in-4.keys3 (λ d. refl)
-    c.before.code_field.result c.before.code_field.ensures c.unlabelled.ensures
+    of_field s a.s.now a.c.at code_l (store-reply-kind s) (λ d. refl) (λ d. refl) c.in-4.keys3 (λ d. refl)
+    c.code_field.result c.code_field.ensures c.unlabelled.ensures
 
 returns-4 : tie.Need-returns-in-8
 unfolding body_at body_label body_number candidate_at
 returns-4 c =
-    let a = c.before.before.before.args in
+    let a = c.args in
     let s = shelf a.t in
-    of_part s a.s.now a.c.at (any_candidate_l s) (collect-reply-kind s) (λ d. refl) (λ d. refl) c.before.in-8.keys4 (λ d. refl)
+    of_part s a.s.now a.c.at (any_candidate_l s) (collect-reply-kind s) (λ d. refl) (λ d. refl) c.in-8.keys4 (λ d. refl)
     c.any_candidate_field.result c.any_candidate_field.ensures
 
 returns-5 : tie.Need-returns-in-5
 unfolding body_at body_label body_number candidate_at
 returns-5 c =
-    let a = c.before.before.before.args in
+    let a = c.args in
     let s = shelf a.t in
     ⊎_elim
     (λ e. of_part s a.s.now a.c.at (candidate_l s) (complete-kind s) (λ d. refl) (λ d. refl) e (λ d. refl)
     c.candidate_field.result c.candidate_field.ensures)
     (λ e. of_part s a.s.now a.c.at (candidate_l s) (repair-kind s) (λ d. refl) (λ d. refl) e (λ d. refl)
     c.candidate_field.result c.candidate_field.ensures)
-    c.before.in-5.keys5
+    c.in-5.keys5
 
 returns-6 : tie.Need-returns-in-9
 unfolding body_at body_label body_number
 returns-6 c =
-    let a = c.before.before.before.before.args in
+    let a = c.args in
     let s = shelf a.t in
     of_field s a.s.now a.c.at (candidates_l s) (filter-kind s) (λ d. refl) (λ d. sym (count_of s (get_or d 0 0) (drop 1 d)))
-    c.before.before.in-9.keys6 (λ d. refl)
-    c.before.candidates_field.result c.before.candidates_field.ensures c.unlabelled-in-9.ensures
+    c.in-9.keys6 (λ d. refl)
+    c.candidates_field.result c.candidates_field.ensures c.unlabelled-in-9.ensures
 
 returns-7 : tie.Need-returns-in-10
 unfolding body_at body_label body_number held_at
 returns-7 c =
-    let a = c.before.before.before.args in
+    let a = c.args in
     let s = shelf a.t in
     of_part s a.s.now a.c.at (held_l s) (filter-reply-kind s) (λ d. refl) (λ d. flag_of (eqb (get_or d stamp_size 0) 0) _)
-    c.before.in-10.keys7 (λ d. refl) c.held_field.result c.held_field.ensures
+    c.in-10.keys7 (λ d. refl) c.held_field.result c.held_field.ensures
 
 returns-8 : tie.Need-returns-in_default
 returns-8 c =

@@ -16,17 +16,17 @@ use Rattle.wire.proofs.packet.head_field.Tie as tie
 
 module _ (c : tie.In-Value-2) where
   abbrev s : List ℕ
-  s = c.before.before.before.before.args.s.now
+  s = c.args.s.now
 
   kind-took : TookAt (byte_l 1 12) s 0 c.kind-1.given.0.0 c.kind-1.given.0.1.0.at
-  kind-took = rw c.kind-1.given.1 at c.before.before.byte_field.ensures
+  kind-took = rw c.kind-1.given.1 at c.byte_field.ensures
 
 module _ (c : tie.In-Value-byte_field-4) where
   abbrev kind_at : tie.In-Value-2
   kind_at = c.before.before.before.before
 
   client-took : TookAt (byte_l 1 top_client) (s kind_at) kind_at.kind.given.0.1.0.at c.client-1.given.0.0 c.client-1.given.0.1.0.at
-  client-took = rw c.client-1.given.1 at c.before.before.byte_field-2.ensures
+  client-took = rw c.client-1.given.1 at c.byte_field-2.ensures
 
 module _ (c : tie.In-Value-byte_field-2-2) where
   abbrev client-at : tie.In-Value-byte_field-4
@@ -34,7 +34,7 @@ module _ (c : tie.In-Value-byte_field-2-2) where
 
   server-took : TookAt (byte_l 1 most_servers) (s (kind_at client-at)) client-at.client.given.0.1.0.at c.server-1.given.0.0
       c.server-1.given.0.1.0.at
-  server-took = rw c.server-1.given.1 at c.before.before.byte_field-3.ensures
+  server-took = rw c.server-1.given.1 at c.byte_field-3.ensures
 
 module _ (c : tie.In-Value-byte_field-3-2) where
   abbrev server_at_lem : tie.In-Value-byte_field-2-2
@@ -42,7 +42,7 @@ module _ (c : tie.In-Value-byte_field-3-2) where
 
   t-took : TookAt (byte_l 1 top_faults) (s (kind_at (client-at server_at_lem))) server_at_lem.server.given.0.1.0.at c.t-1.given.0.0
       c.t-1.given.0.1.0.at
-  t-took = rw c.t-1.given.1 at c.before.before.byte_field-4.ensures
+  t-took = rw c.t-1.given.1 at c.byte_field-4.ensures
 
 module _ (c : tie.In-Value-number4_field-2) where
   abbrev t-at : tie.In-Value-byte_field-3-2
@@ -50,20 +50,20 @@ module _ (c : tie.In-Value-number4_field-2) where
 
   call-took : TookAt (number4_l 1 top_number) (s (kind_at (client-at (server_at_lem t-at)))) t-at.t.given.0.1.0.at c.call-1.given.0.0
       c.call-1.given.0.1.0.at
-  call-took = rw c.call-1.given.1 at c.before.before.number4_field.ensures
+  call-took = rw c.call-1.given.1 at c.number4_field.ensures
 
 -- ---- the needs
 
 returns : tie.Need-returns-in_default
 unfolding head_f
-returns c = stops-kept _ _ (stops-via _ _ _ (stops_first _ _ (rw c.enum_told-1.given.1 at c.before.before.byte_field.ensures)))
+returns c = stops-kept _ _ (stops-via _ _ _ (stops_first _ _ (rw c.enum_told-1.given.1 at c.byte_field.ensures)))
 
 returns-2 : tie.Need-returns-in_default-byte_field
 unfolding head_f
 returns-2 c =
     stops-kept _ _
     (stops-via _ _ _ (stops_second _ _ (kind-took c.before.before.before.before).leaves
-    (stops_first _ _ (rw c.enum_told-in_default-byte_field-1.given.1 at c.before.before.byte_field-2.ensures))))
+    (stops_first _ _ (rw c.enum_told-in_default-byte_field-1.given.1 at c.byte_field-2.ensures))))
 
 returns-3 : tie.Need-returns-in_default-byte_field-2
 unfolding head_f
@@ -72,7 +72,7 @@ returns-3 c =
     stops-kept _ _
     (stops-via _ _ _
     (stops_second _ _ (kind-took (kind_at y)).leaves
-    (stops_second _ _ (client-took y).leaves (stops_first _ _ (rw c.enum_told-in_default-byte_field-2-1.given.1 at c.before.before.byte_field-3.ensures)))))
+    (stops_second _ _ (client-took y).leaves (stops_first _ _ (rw c.enum_told-in_default-byte_field-2-1.given.1 at c.byte_field-3.ensures)))))
 
 returns-4 : tie.Need-returns-in_default-byte_field-3
 unfolding head_f
@@ -83,7 +83,7 @@ returns-4 c =
     (stops-via _ _ _
     (stops_second _ _ (kind-took (kind_at y)).leaves
     (stops_second _ _ (client-took y).leaves
-    (stops_second _ _ (server-took z).leaves (stops_first _ _ (rw c.enum_told-in_default-byte_field-3-1.given.1 at c.before.before.byte_field-4.ensures))))))
+    (stops_second _ _ (server-took z).leaves (stops_first _ _ (rw c.enum_told-in_default-byte_field-3-1.given.1 at c.byte_field-4.ensures))))))
 
 returns-5 : tie.Need-returns-in_default-number4_field
 unfolding head_f
@@ -96,7 +96,7 @@ returns-5 c =
     (stops_second _ _ (kind-took (kind_at y)).leaves
     (stops_second _ _ (client-took y).leaves
     (stops_second _ _ (server-took z).leaves
-    (stops_second _ _ (t-took w).leaves (rw c.enum_told-in_default-number4_field-1.given.1 at c.before.before.number4_field.ensures))))))
+    (stops_second _ _ (t-took w).leaves (rw c.enum_told-in_default-number4_field-1.given.1 at c.number4_field.ensures))))))
 
 t-most : (c : tie.In-Value-number4_field-2) → (t-at c).t.given.0.0 ≤ top_faults
 t-most c = (byte_range 1 top_faults (t-took (t-at c))).1
@@ -110,7 +110,7 @@ returns-6 c =
     let w = t-at v in
     let z = server_at_lem w in
     let y = client-at z in
-    head-outside (kind-took (kind_at y)) (client-took y) (server-took z) (t-took w) (call-took v) (omega (arith, c.before.servers.ensures))
+    head-outside (kind-took (kind_at y)) (client-took y) (server-took z) (t-took w) (call-took v) (omega (arith, c.servers.ensures))
 
 -- the place past the last field, from the end
 abbrev call_at : tie.Else-servers-server → tie.In-Value-number4_field-2
@@ -134,7 +134,7 @@ returns-7 c =
     let w = t-at v in
     let z = server_at_lem w in
     let y = client-at z in
-    head-took (kind-took (kind_at y)) (client-took y) (server-took z) (t-took w) (call-took v) (omega (arith, c.before.servers.ensures))
+    head-took (kind-took (kind_at y)) (client-took y) (server-took z) (t-took w) (call-took v) (omega (arith, c.servers.ensures))
 
 pub head_field_spec : {M : Type 1} → statement M
 head_field_spec = tie.close (tie.spec (λ c. search rules) (λ c. search rules) (λ c κs. search rules) (λ c. search rules) (λ c. search rules) returns

@@ -11,31 +11,31 @@ use Rattle.wire.proofs.parts.any_candidate_field.Statement.{statement}
 use Rattle.wire.proofs.parts.any_candidate_field.Tie as tie
 
 returns : tie.Need-returns-then-s-at
-returns c = past-any-candidate (shelf c.before.before.args.t) (omega arith)
+returns c = past-any-candidate (shelf c.args.t) (omega arith)
 
 returns-2 : tie.Need-returns-in_default
 unfolding any_candidate_f
 returns-2 c =
     let at-candidate-size = c.before.before.before in
-    ⊎_elim (λ h. stops_short _ _ _ (rw at-candidate-size.before.enum_told-1.given.1 at
-    at-candidate-size.before.before.before.candidate_field.ensures) h)
-    (λ h. stops-blank _ _ _ (rw at-candidate-size.before.enum_told-1.given.1 at
-    at-candidate-size.before.before.before.candidate_field.ensures) h.0 h.1)
-    (rw c.before.before.before.candidate_size.ensures at (rw c.enum_told-in_default-1.given.1 at c.before.before.zero_run.ensures))
+    ⊎_elim (λ h. stops_short _ _ _ (rw at-candidate-size.enum_told-1.given.1 at
+    at-candidate-size.candidate_field.ensures) h)
+    (λ h. stops-blank _ _ _ (rw at-candidate-size.enum_told-1.given.1 at
+    at-candidate-size.candidate_field.ensures) h.0 h.1)
+    (rw c.candidate_size.ensures at (rw c.enum_told-in_default-1.given.1 at c.zero_run.ensures))
 
 returns-3 : tie.Need-returns-in-Value
-returns-3 c = any-candidate-took (shelf c.before.before.before.before.before.before.args.t)
-    (rw c.before.label-1.given.1 at c.before.before.before.candidate_field.ensures)
+returns-3 c = any-candidate-took (shelf c.args.t)
+    (rw c.label-1.given.1 at c.candidate_field.ensures)
 
 returns-4 : tie.Need-returns-in-Past
 returns-4 c =
     let at-candidate-size = c.before.before.before.before in
-    blank-candidate-took (shelf at-candidate-size.before.before.before.before.before.before.args.t)
-    (rw at-candidate-size.before.enum_told-1.given.1 at at-candidate-size.before.before.before.candidate_field.ensures)
-    (rw at-candidate-size.candidate_size.ensures at (rw c.before.c1-1.given.1 at
-    c.before.before.before.zero_run.ensures)).within (rw at-candidate-size.candidate_size.ensures at
-    (rw c.before.c1-1.given.1 at c.before.before.before.zero_run.ensures)).zero
-    (rw at-candidate-size.candidate_size.ensures at (rw c.before.c1-1.given.1 at c.before.before.before.zero_run.ensures)).place
+    blank-candidate-took (shelf at-candidate-size.args.t)
+    (rw at-candidate-size.enum_told-1.given.1 at at-candidate-size.candidate_field.ensures)
+    (rw at-candidate-size.candidate_size.ensures at (rw c.c1-1.given.1 at
+    c.zero_run.ensures)).within (rw at-candidate-size.candidate_size.ensures at
+    (rw c.c1-1.given.1 at c.zero_run.ensures)).zero
+    (rw at-candidate-size.candidate_size.ensures at (rw c.c1-1.given.1 at c.zero_run.ensures)).place
 
 pub any_candidate_field_spec : {M : Type 1} → statement M
 any_candidate_field_spec = tie.close (tie.spec returns (λ c κs. search rules) (λ c. search rules) (λ c. search rules) (λ c κs. search rules)

@@ -16,21 +16,21 @@ returns-2 : tie.Need-returns-in_default
 unfolding any_stamp_f
 returns-2 c =
     let at-enum-told = c.before.before.before in
-    ⊎_elim (λ h. stops_short _ _ _ (rw c.before.before.before.enum_told-1.given.1 at
-    at-enum-told.before.before.stamp_field.ensures) h) (λ h. stops-blank _ _ _
-    (rw c.before.before.before.enum_told-1.given.1 at at-enum-told.before.before.stamp_field.ensures) h.0 h.1)
-    (rw c.enum_told-in_default-1.given.1 at c.before.before.zero_run.ensures)
+    ⊎_elim (λ h. stops_short _ _ _ (rw c.enum_told-1.given.1 at
+    at-enum-told.stamp_field.ensures) h) (λ h. stops-blank _ _ _
+    (rw c.enum_told-1.given.1 at at-enum-told.stamp_field.ensures) h.0 h.1)
+    (rw c.enum_told-in_default-1.given.1 at c.zero_run.ensures)
 
 returns-3 : tie.Need-returns-in-Value
-returns-3 c = any-stamp-took (rw c.before.label-1.given.1 at c.before.before.before.stamp_field.ensures)
+returns-3 c = any-stamp-took (rw c.label-1.given.1 at c.stamp_field.ensures)
 
 returns-4 : tie.Need-returns-in-Past
 returns-4 c =
     let at-enum-told = c.before.before.before.before in
     blank-stamp-took (rw at-enum-told.enum_told-1.given.1 at
-    at-enum-told.before.before.stamp_field.ensures) (rw c.before.c1-1.given.1 at
-    c.before.before.before.zero_run.ensures).within (rw c.before.c1-1.given.1 at c.before.before.before.zero_run.ensures).zero
-    (rw c.before.c1-1.given.1 at c.before.before.before.zero_run.ensures).place
+    at-enum-told.stamp_field.ensures) (rw c.c1-1.given.1 at
+    c.zero_run.ensures).within (rw c.c1-1.given.1 at c.zero_run.ensures).zero
+    (rw c.c1-1.given.1 at c.zero_run.ensures).place
 
 pub any_stamp_field_spec : {M : Type 1} → statement M
 any_stamp_field_spec = tie.close (tie.spec returns (λ c κs. search rules) (λ c. search rules) (λ c. search rules) (λ c κs. search rules)

@@ -26,20 +26,20 @@ module _ (c : tie.In-Value-2) where
   p1 = c.label-1.given.0.1.1.0.at
 
   stamp-past : TookLabelled stamp_l s (start-from-label c).args.c.at c.label-1.given.0.0 c.label-1.given.0.1.0 p1
-  stamp-past = rw c.label-1.given.1 at c.before.before.stamp_field.ensures
+  stamp-past = rw c.label-1.given.1 at c.stamp_field.ensures
 
 module _ (c : tie.In-Past-2) where
   abbrev first : tie.In-Value-2
   first = c.before.before.before.before
 
   nonce-ran : Ran nonce_size (s first) (p1 first) c.c2-1.given.0.0.at
-  nonce-ran = rw c.c2-1.given.1 at c.before.before.run_field.ensures
+  nonce-ran = rw c.c2-1.given.1 at c.run_field.ensures
 
 -- ---- the needs
 
 returns : tie.Need-returns-in_default
 unfolding candidate_f
-returns c = stops-via _ _ _ (stops_first _ _ (rw c.enum_told-1.given.1 at c.before.before.stamp_field.ensures))
+returns c = stops-via _ _ _ (stops_first _ _ (rw c.enum_told-1.given.1 at c.stamp_field.ensures))
 
 run-field-requires : tie.Need-run_field-requires
 run-field-requires c κs = (stamp-past c.before).took.leaves.within
@@ -48,7 +48,7 @@ returns-2 : tie.Need-returns-in_default-run_field
 unfolding candidate_f
 returns-2 c =
     stops-via _ _ _ (stops_second _ _ (stamp-past c.before.before.before.before).took.leaves
-    (stops_first _ _ (rw c.enum_told-in_default-run_field-1.given.1 at c.before.before.run_field.ensures)))
+    (stops_first _ _ (rw c.enum_told-in_default-run_field-1.given.1 at c.run_field.ensures)))
 
 run-field-requires-2 : tie.Need-run_field-requires-2
 run-field-requires-2 c κs = (nonce-ran c.before.before).leaves.within
@@ -59,15 +59,15 @@ returns-3 c =
     let n = c.before.before.before.before.before in
     stops-via _ _ _
     (stops_second _ _ (stamp-past (first n)).took.leaves
-    (stops_second _ _ (nonce-ran n).leaves (rw c.before.before.before.tags_size.ensures at
-    (rw c.enum_told-in_default-run_field-2-1.given.1 at c.before.before.run_field-2.ensures))))
+    (stops_second _ _ (nonce-ran n).leaves (rw c.tags_size.ensures at
+    (rw c.enum_told-in_default-run_field-2-1.given.1 at c.run_field-2.ensures))))
 
 returns-4 : tie.Need-returns
 returns-4 c =
     let at-tags-size = c.before.before.before.before in
     let n = at-tags-size.before.before in
-    candidate-took (shelf (first n).before.before.before.before.args.t) (stamp-past (first n)) (nonce-ran n)
-    (rw at-tags-size.tags_size.ensures at (rw c.before.c3-1.given.1 at c.before.before.before.run_field-2.ensures))
+    candidate-took (shelf (first n).args.t) (stamp-past (first n)) (nonce-ran n)
+    (rw at-tags-size.tags_size.ensures at (rw c.c3-1.given.1 at c.run_field-2.ensures))
 
 pub candidate_field_spec : {M : Type 1} → statement M
 candidate_field_spec = tie.close (tie.spec (λ c κs. search rules) (λ c. search rules) (λ c. search rules) returns run-field-requires

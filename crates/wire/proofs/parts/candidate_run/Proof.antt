@@ -23,30 +23,30 @@ abbrev decreases-loop : tie.decreases-loop-i
 decreases-loop s t n at₀ i₀ at i = n - i
 
 loop-holds : tie.Need-loop-i-init invariant-loop decreases-loop
-loop-holds c = (omega arith, run_none (shelf c.before.args.t) (omega arith))
+loop-holds c = (omega arith, run_none (shelf c.args.t) (omega arith))
 
 returns : tie.Need-returns-in_default invariant-loop decreases-loop
 returns c =
     let at-loop = c.before.before.before.before in
-    many_broken (candidate_f (shelf at-loop.before.before.args.t)) at-loop.loop-i.i
-    at-loop.before.before.args.n (omega arith) at-loop.loop-i.invariant.1.leaves
-    (rw c.enum_told-1.given.1 at c.before.before.candidate_field.ensures)
+    many_broken (candidate_f (shelf at-loop.args.t)) at-loop.loop-i.i
+    at-loop.args.n (omega arith) at-loop.loop-i.invariant.1.leaves
+    (rw c.enum_told-1.given.1 at c.candidate_field.ensures)
 
 loop-again : tie.Need-loop-i-preserved invariant-loop decreases-loop
 loop-again c =
     let at-loop = c.before.before.before.before.before in (
       omega arith,
-      run_more (shelf at-loop.before.before.args.t)
+      run_more (shelf at-loop.args.t)
           at-loop.loop-i.i at-loop.loop-i.invariant.1
-          (rw c.before.next-1.given.1 at c.before.before.before.candidate_field.ensures).took,
+          (rw c.next-1.given.1 at c.candidate_field.ensures).took,
     )
 
 returns-2 : tie.Need-returns invariant-loop decreases-loop
-returns-2 c = let e : c.before.loop-i.i ≡ c.before.before.before.args.n = omega arith in subst
-    (λ (k : ℕ). Past (many k (candidate_f (shelf c.before.before.before.args.t))) c.before.before.before.args.s.now
-    c.before.before.before.args.c.at (candidate_list (shelf c.before.before.before.args.t) k
-    (drop c.before.before.before.args.c.at c.before.before.before.args.s.now)) c.before.loop-i.at
-    (candidate_size_def (shelf c.before.before.before.args.t) * k)) e c.before.loop-i.invariant.1
+returns-2 c = let e : c.loop-i.i ≡ c.args.n = omega arith in subst
+    (λ (k : ℕ). Past (many k (candidate_f (shelf c.args.t))) c.args.s.now
+    c.args.c.at (candidate_list (shelf c.args.t) k
+    (drop c.args.c.at c.args.s.now)) c.loop-i.at
+    (candidate_size_def (shelf c.args.t) * k)) e c.loop-i.invariant.1
 
 pub candidate_run_spec : {M : Type 1} → statement M
 candidate_run_spec = tie.close (tie.spec invariant-loop decreases-loop loop-holds (λ c κs. search rules) (λ c. search rules) (λ c. search rules) returns

@@ -29,7 +29,7 @@ module _ (c : tie.In-Value-2) where
   p1 = c.label-1.given.0.1.1.0.at
 
   stamp-took : TookLabelled any_stamp_l s (start-from-label c).args.c.at c.label-1.given.0.0 c.label-1.given.0.1.0 p1
-  stamp-took = rw c.label-1.given.1 at c.before.before.any_stamp_field.ensures
+  stamp-took = rw c.label-1.given.1 at c.any_stamp_field.ensures
 
 module _ (c : tie.In-Value-byte_field-2) where
   abbrev limit : tie.After-held_most
@@ -39,20 +39,20 @@ module _ (c : tie.In-Value-byte_field-2) where
   stamp = c.before.before.before.before.before
 
   flag-took : TookAt (byte_l 0 limit.held-most.result) (s stamp) (p1 stamp) c.flag-1.given.0.0 c.flag-1.given.0.1.0.at
-  flag-took = rw c.flag-1.given.1 at c.before.before.byte_field.ensures
+  flag-took = rw c.flag-1.given.1 at c.byte_field.ensures
 
 -- ---- the needs
 
 returns : tie.Need-returns-in_default
 unfolding held_f
-returns c = stops-via _ _ _ (stops_first _ _ (rw c.enum_told-1.given.1 at c.before.before.any_stamp_field.ensures))
+returns c = stops-via _ _ _ (stops_first _ _ (rw c.enum_told-1.given.1 at c.any_stamp_field.ensures))
 
 returns-2 : tie.Need-returns-in_default-byte_field
 returns-2 c =
     let l = c.before.before.before in
     let a = l.before.before in
     held-flag_stops (form a) (stamp-took a) l.held_most.result l.held_most.ensures
-    (rw c.enum_told-in_default-byte_field-1.given.1 at c.before.before.byte_field.ensures)
+    (rw c.enum_told-in_default-byte_field-1.given.1 at c.byte_field.ensures)
 
 returns-3 : tie.Need-returns-then-flag-eq0
 returns-3 c =
@@ -64,8 +64,8 @@ returns-4 : tie.Need-returns-in_default-share_field
 returns-4 c =
     let f = c.before.before.before.before.before in
     let l = (limit f).held-most in
-    held-share_stops (form (stamp f)) (stamp-took (stamp f)) l.result l.ensures (flag-took f) c.before.before.before.if-flag-eq0.false
-    (rw c.enum_told-in_default-share_field-1.given.1 at c.before.before.share_field.ensures)
+    held-share_stops (form (stamp f)) (stamp-took (stamp f)) l.result l.ensures (flag-took f) c.if-flag-eq0.false
+    (rw c.enum_told-in_default-share_field-1.given.1 at c.share_field.ensures)
 
 returns-5 : tie.Need-returns
 returns-5 c =
@@ -73,7 +73,7 @@ returns-5 c =
     let f = at-else1.before.before in
     let l = (limit f).held-most in
     held_present (form (stamp f)) (stamp-took (stamp f)) l.result l.ensures (flag-took f) at-else1.if-flag-eq0.false
-    (rw c.before.c3-1.given.1 at c.before.before.before.share_field.ensures)
+    (rw c.c3-1.given.1 at c.share_field.ensures)
 
 pub held_field_spec : {M : Type 1} → statement M
 held_field_spec = tie.close (tie.spec (λ c κs. search rules) (λ c. search rules) (λ c. search rules) returns (λ c κs. search rules)

@@ -15,7 +15,7 @@ use Rattle.wire.proofs.parts.share_field.Tie as tie
 
 returns : tie.Need-returns-in_default
 unfolding share_f
-returns c = stops-via _ _ _ (stops_first _ _ (rw c.enum_told-1.given.1 at c.before.before.number2_field.ensures))
+returns c = stops-via _ _ _ (stops_first _ _ (rw c.enum_told-1.given.1 at c.number2_field.ensures))
 
 -- Places far back, each named once: the place, and from where it is seen.
 abbrev start-from-n : tie.In-Value-2 → tie.Start
@@ -26,7 +26,7 @@ n-from-share-size c = c.before.before
 
 length-took : (c : tie.In-Value-2)
     → TookAt (number2_l 0 top_length) (start-from-n c).args.s.now (start-from-n c).args.c.at c.n-1.given.0.0 c.n-1.given.0.1.0.at
-length-took c = rw c.n-1.given.1 at c.before.before.number2_field.ensures
+length-took c = rw c.n-1.given.1 at c.number2_field.ensures
 
 -- what follows the length
 size_is : (c : tie.After-share_size-size)
@@ -44,13 +44,13 @@ returns-2 : tie.Need-returns-in_default-run_field
 returns-2 c =
     let at_size = c.before.before.before in
     share_short (shelf (start-from-n (n-from-share-size at_size)).args.t) (length-took (n-from-share-size at_size)) (size_is at_size)
-    (rw c.enum_told-in_default-run_field-1.given.1 at c.before.before.run_field.ensures)
+    (rw c.enum_told-in_default-run_field-1.given.1 at c.run_field.ensures)
 
 returns-3 : tie.Need-returns
 returns-3 c =
     let at_size = c.before.before.before.before in
     share-joined (shelf (start-from-n (n-from-share-size at_size)).args.t) (length-took (n-from-share-size at_size)) (size_is at_size)
-    (rw c.before.c2-1.given.1 at c.before.before.before.run_field.ensures)
+    (rw c.c2-1.given.1 at c.run_field.ensures)
 
 pub share_field_spec : {M : Type 1} → statement M
 share_field_spec = tie.close (tie.spec (λ c. search rules) (λ c κs. search rules) (λ c. search rules) (λ c. search rules) returns

@@ -27,27 +27,27 @@ module _ (c : tie.In-Value-2) where
   p1 = c.number-1.given.0.1.0.at
 
   number-took : TookAt (number4_l 1 top_number) s (start-from-number c).args.c.at c.number-1.given.0.0 p1
-  number-took = rw c.number-1.given.1 at c.before.before.number4_field.ensures
+  number-took = rw c.number-1.given.1 at c.number4_field.ensures
 
 module _ (c : tie.In-Value-byte_field-2) where
   abbrev first : tie.In-Value-2
   first = c.before.before.before.before
 
   writer-took : TookAt (byte_l 1 top_writer) (s first) (p1 first) c.writer-1.given.0.0 c.writer-1.given.0.1.0.at
-  writer-took = rw c.writer-1.given.1 at c.before.before.byte_field.ensures
+  writer-took = rw c.writer-1.given.1 at c.byte_field.ensures
 
 -- ---- the needs
 
 returns : tie.Need-returns-in_default
 unfolding stamp_f
-returns c = stops-via _ _ _ (stops_first _ _ (rw c.enum_told-1.given.1 at c.before.before.number4_field.ensures))
+returns c = stops-via _ _ _ (stops_first _ _ (rw c.enum_told-1.given.1 at c.number4_field.ensures))
 
 returns-2 : tie.Need-returns-in_default-byte_field
 unfolding stamp_f
 returns-2 c =
     stops-via _ _ _
     (stops_second _ _ (number-took c.before.before.before.before).leaves (stops_first _ _
-    (rw c.enum_told-in_default-byte_field-1.given.1 at c.before.before.byte_field.ensures)))
+    (rw c.enum_told-in_default-byte_field-1.given.1 at c.byte_field.ensures)))
 
 run-field-requires : tie.Need-run_field-requires
 run-field-requires c κs = (writer-took c.before).leaves.within
@@ -58,7 +58,7 @@ returns-3 c =
     let w = c.before.before.before.before in
     stops-via _ _ _
     (stops_second _ _ (number-took (first w)).leaves
-    (stops_second _ _ (writer-took w).leaves (rw c.enum_told-in_default-run_field-1.given.1 at c.before.before.run_field.ensures)))
+    (stops_second _ _ (writer-took w).leaves (rw c.enum_told-in_default-run_field-1.given.1 at c.run_field.ensures)))
 
 cast-t13 : tie.Need-overflow_cast-label
 cast-t13 c = omega (arith, (byte_range 1 top_writer (writer-took c.before.before.before.before.before)).1)
@@ -66,7 +66,7 @@ cast-t13 c = omega (arith, (byte_range 1 top_writer (writer-took c.before.before
 returns-4 : tie.Need-returns
 returns-4 c =
     let w = c.before.before.before.before.before in
-    stamp-took (number-took (first w)) (writer-took w) (rw c.before.c3-1.given.1 at c.before.before.before.run_field.ensures)
+    stamp-took (number-took (first w)) (writer-took w) (rw c.c3-1.given.1 at c.run_field.ensures)
 
 pub stamp_field_spec : {M : Type 1} → statement M
 stamp_field_spec = tie.close (tie.spec (λ c. search rules) (λ c κs. search rules) (λ c. search rules) (λ c. search rules) returns (λ c. search rules)

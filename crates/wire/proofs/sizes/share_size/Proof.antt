@@ -8,14 +8,14 @@ use Rattle.wire.proofs.sizes.share_size.Statement.{statement}
 use Rattle.wire.proofs.sizes.share_size.Tie as tie
 
 add-result : tie.Need-overflow_add-result
-add-result c = omega (arith, c.fragment_size.ensures, fragment-few c.before.args.t c.before.args.n)
+add-result c = omega (arith, c.fragment_size.ensures, fragment-few c.args.t c.args.n)
 
 add-result-2 : tie.Need-overflow_add-result-2
 unfolding shelf
 add-result-2 c = omega (
   arith,
-  c.before.fragment_size.ensures,
-  fragment-few c.before.before.args.t c.before.before.args.n,
+  c.fragment_size.ensures,
+  fragment-few c.args.t c.args.n,
   c.digests_size.ensures,
 )
 
@@ -23,8 +23,8 @@ add-result-3 : tie.Need-overflow_add-result-3
 unfolding shelf
 add-result-3 c = omega (
   arith,
-  c.before.fragment_size.ensures,
-  fragment-few c.before.before.args.t c.before.before.args.n,
+  c.fragment_size.ensures,
+  fragment-few c.args.t c.args.n,
   c.digests_size.ensures,
 )
 
@@ -32,16 +32,16 @@ add-result-4 : tie.Need-overflow_add-result-4
 unfolding shelf
 add-result-4 c = omega (
   arith,
-  c.before.before.fragment_size.ensures,
-  fragment-few c.before.before.before.args.t
-      c.before.before.before.args.n,
-  c.before.digests_size.ensures,
+  c.fragment_size.ensures,
+  fragment-few c.args.t
+      c.args.n,
+  c.digests_size.ensures,
   c.tags_size.ensures,
 )
 
 returns : tie.Need-returns
 unfolding share_size_def
-returns c = rw (c.tags_size.ensures, c.before.digests_size.ensures, c.before.before.fragment_size.ensures)
+returns c = rw (c.tags_size.ensures, c.digests_size.ensures, c.fragment_size.ensures)
 
 pub share_size_spec : {M : Type 1} → statement M
 share_size_spec = tie.close (tie.spec (λ c κs. search rules) add-result (λ c κs. search rules) add-result-2 add-result-3 (λ c κs. search rules)

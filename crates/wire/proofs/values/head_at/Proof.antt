@@ -10,8 +10,8 @@ returns : tie.Need-returns
 unfolding head_at_def
 returns c =
     c.new.ensures ∙ λ i. record {
-      stamp = c.before.before.before.stamp_at-stamp.ensures i;
-      nonce = (c.before.nonce_of-nonce.ensures ∙ ap (padded nonce_size) c.before.before.rest.ensures) i;
+      stamp = c.stamp_at-stamp.ensures i;
+      nonce = (c.nonce_of-nonce.ensures ∙ ap (padded nonce_size) c.rest.ensures) i;
     }
 
 pub head_at_spec : {M : Type 1} → statement M

@@ -6,7 +6,7 @@ use Rattle.wire.proofs.values.label_at.Tie as tie
 
 returns : tie.Need-returns
 unfolding stamp_at_def
-returns c = λ i. record { number = c.before.number4.ensures i; writer = c.byte_at.ensures i }
+returns c = λ i. record { number = c.number4.ensures i; writer = c.byte_at.ensures i }
 
 pub label_at_spec : {M : Type 1} → statement M
 label_at_spec = tie.close (tie.spec (λ c κs. search rules) (λ c κs. search rules) returns)

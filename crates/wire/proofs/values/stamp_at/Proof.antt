@@ -11,8 +11,8 @@ returns : tie.Need-returns
 unfolding stamp_at_def
 returns c =
     let at_label = c.before.before.before in
-    c.new.ensures ∙ rw (at_label.label_at-label.ensures, c.before.tag_of-tag.ensures, c.before.before.rest.ensures)
-    (stamp-padded at_label.before.before.args.s.now)
+    c.new.ensures ∙ rw (at_label.label_at-label.ensures, c.tag_of-tag.ensures, c.rest.ensures)
+    (stamp-padded at_label.args.s.now)
 
 pub stamp_at_spec : {M : Type 1} → statement M
 stamp_at_spec = tie.close (tie.spec (λ c κs. search rules) (λ c κs. search rules) (λ c κs. search rules) (λ c κs. search rules) returns)
