@@ -24,7 +24,7 @@ use Rattle.erasure.specs.Choice.{servers_at, first_different, parts_at}
 use Rattle.erasure.specs.Chosen.{Holds}
 use Rattle.erasure.specs.Steps.{argument_checks, restore_refusal_def, restored_bytes, restore_step}
 use Rattle.erasure.specs.System.{width, AllDifferent}
-use Rattle.erasure.specs.Lanes.{byteAt, rebuilt_of}
+use Rattle.erasure.specs.Lanes.{byte_at, rebuilt_of}
 use Rattle.erasure.proofs.Lists.{get_or-table, get_d_map, table_is}
 use Rattle.erasure.proofs.Laws.{size_pos, take-map}
 use Rattle.erasure.proofs.Placed.{table_ext}
@@ -170,10 +170,10 @@ module _ (k : ℕ) (servers : List ℕ) (c : Chosen) (h : Holds k servers (first
       parts_at_lem : take k (map part places) ≡ map part places
       parts_at_lem = ap (λ (n : ℕ). take n (map part places)) (sym (length-map places part ∙ long)) ∙ take-length (map part places)
 
-      byte_at_lem : (q : ℕ) → q < f → map (λ p. get_or p.bytes q 0) (map part places) ≡ table k (byteAt fragments (map (λ p. p * f) c.at) q)
+      byte_at_lem : (q : ℕ) → q < f → map (λ p. get_or p.bytes q 0) (map part places) ≡ table k (byte_at fragments (map (λ p. p * f) c.at) q)
       unfolding part
       byte_at_lem q b =
-          table_is k (map (λ p. get_or p.bytes q 0) (map part places)) (byteAt fragments (map (λ p. p * f) c.at) q)
+          table_is k (map (λ p. get_or p.bytes q 0) (map part places)) (byte_at fragments (map (λ p. p * f) c.at) q)
           (length-map (map part places) (λ p. get_or p.bytes q 0) ∙ length-map places part ∙ long)
           (λ j h.
           get_d_map (λ p. get_or p.bytes q 0) (map part places) j (part 0) 0 (omega (arith, length-map places part, long))
@@ -197,7 +197,7 @@ module _ (k : ℕ) (servers : List ℕ) (c : Chosen) (h : Holds k servers (first
           ∙ sym (take-map (point_of points) k c.servers))
           (ap (map (λ p. get_or p.bytes q 0)) parts_at_lem ∙ byte_at_lem q inside)
           ∙ ap (λ (i : ℕ). through bytes (take k (map (point_of points) c.servers))
-          (table k (byteAt fragments (map (λ p. p * f) c.at) q)) (get_or points i 0)) (sym run)))
+          (table k (byte_at fragments (map (λ p. p * f) c.at) q)) (get_or points i 0)) (sym run)))
 
 -- the points of different servers are different
 pub points-differ : (k : ℕ) (points servers given : List ℕ) → PointTable points → AllDifferent k servers

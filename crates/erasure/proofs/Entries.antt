@@ -10,7 +10,7 @@ use mir.Syntax.{w8}
 use mir.Val.{Val}
 use lib.ListN.{get_or}
 
-pub entry-byte : (n : ℕ) (rows : List (List ℕ)) (us : List Val) (r c : ℕ) → shadow (each (List ℕ) (e_arr (e_int w8) n).ty.own rows us)
+pub entry-byte : (n : ℕ) (rows : List (List ℕ)) (us : List Val) (r c : ℕ) → shadow (each (List ℕ) (e_arr (e_int w8) n).ty.own_val rows us)
     → get_or (get_or rows r []) c 0 < 256
 entry-byte n [] us r c p = zero-lt-suc 255
 entry-byte n (x ∷ xs) [] r c p = absurd p

@@ -93,8 +93,8 @@ make-requires c κs =
 
 returns-2 : tie.Need-returns
 returns-2 c =
-    let at_size = c.before.before.before in
-    let at = at_size.before in
+    let at_size = c.before.before in
+    let at = at_size.before.before in
     let p = past at in
     let size = at_size.size-f in
     let k-is = at_size.threshold_of-k.ensures in

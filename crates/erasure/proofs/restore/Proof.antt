@@ -150,7 +150,7 @@ part_end c = (table c).enough
 
 size-requires : tie.Need-size-requires
 size-requires c κs =
-    let at = select c.before.before in
+    let at = select c.before in
     (omega (arith, k-is at), k-most at, (ok (past at)).bytes)
 
 -- Places far back, each named once: the place, and from where it is seen.
@@ -166,7 +166,7 @@ rebuild-requires c κs =
     let size = c.size in
     let all = all-chosen s (full at) in
     let f : size.result ≡ fragment_size_def (shelf (t p)).threshold (n p) = size.ensures ∙ ap (λ (x : ℕ). fragment_size_def x (n p))
-    s.before.threshold-of.ensures in (
+    s.before.threshold_of-k.ensures in (
       omega (arith, all, k-is s),
       omega (arith, all, k-most s),
       omega (arith, all, k-is s, (table at).long),
@@ -192,15 +192,15 @@ returns-3 c =
     let size = at_size.size in
     let points = take (at.servers_of-s.result - 0) at.numbered-points.result in
     let enough : (shelf (t p)).threshold ≤ length (first_different (shelf (t p)).threshold (servers p)) =
-    subst (λ (x : ℕ). x ≤ length (first_different x (servers p))) s.before.threshold-of.ensures (omega (arith, counted_is s, full at)) in
+    subst (λ (x : ℕ). x ≤ length (first_different x (servers p))) s.before.threshold_of-k.ensures (omega (arith, counted_is s, full at)) in
     let made : ℕ → ℕ → List ℕ = λ x y. rebuilt_of x y (n p) points (map (point_of points) (chosen s).servers) (fragments p)
     (map (λ m. m * y) (chosen s).at) in
     let bytes : made (chosen s).count size.result ≡ restored_bytes (t p) (n p) (servers p) (fragments p) =
     ap₂ made (all-chosen s (full at)) size.ensures
-    ∙ rebuilt_is (k s) (servers p) (chosen s) s.select.ensures (k-most s) (at_length s) (servers-length s) (full at) points (n p) (fragments p)
+    ∙ rebuilt_is (k s) (servers p) (chosen s) s.select-c.ensures (k-most s) (at_length s) (servers-length s) (full at) points (n p) (fragments p)
     (omega (arith, k-is s))
     ∙ ap₂ (λ (l : List ℕ) (x : ℕ). restored l x (n p) (parts_at (fragment_size_def x (n p)) (servers p) (fragments p) (first_different x (servers p))))
-    (table at).points s.before.threshold-of.ensures in
+    (table at).points s.before.threshold_of-k.ensures in
     ap (λ (l : List ℕ). (record { number = 0; count = n p }, l))
     (c.rebuild.ensures ∙ ap (λ (l : List ℕ). l ++ drop (n p) (out p)) bytes)
     ∙ sym (restore-accepted (t p) (n p) (servers p) (fragments p) (out p) (refused_none (t p) (n p) (servers p) (fragments p) (out p) (none_applies p)

@@ -69,7 +69,7 @@ rebuild-weighed-requires c κs =
       size.ensures,
       subst (λ (x : ℕ). x ≤ fragment_room) (sym size.ensures) (size_fits k.result (n p) (omega (arith, is, (ok p).faults.0)) (ok p).bytes),
       subst (λ (x : ℕ). n p ≤ k.result * x) (sym size.ensures) (runs_cover k.result (n p) (omega (arith, is))),
-      omega (arith, (ok p).bytes, (ok p).ranges),
+      omega (arith, (ok p).bytes, (ok p).fits),
       (ok p).whole
           ∙ sym (ap (λ (x : ℕ). k.result * x) size.ensures ∙ ap (λ (x : ℕ). x * fragment_size_def x (n p)) k.ensures),
     )

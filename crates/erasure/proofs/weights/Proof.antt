@@ -157,7 +157,7 @@ returns-3 c =
     let s = select at in
     let p = past s in
     let points = take (at.servers_of-s.result - 0) at.numbered-points.result in
-    let threshold : k s ≡ (shelf (t p)).threshold = s.before.threshold-of.ensures in
+    let threshold : k s ≡ (shelf (t p)).threshold = s.before.threshold_of-k.ensures in
     let enough : (shelf (t p)).threshold ≤ length (first_different (shelf (t p)).threshold (servers p)) =
     subst (λ (x : ℕ). x ≤ length (first_different x (servers p))) threshold (omega (arith, counted_is s, full at)) in
     let answer : List ℕ → ℕ → List ℕ → WeightsOutcome = λ all m used. record {
@@ -174,7 +174,7 @@ returns-3 c =
           ++ replicate (rows_room - m * m) 0;
     } in
     ap₂ (λ (u r : List ℕ). record { number = 0; count = k s; servers = u; rows = r }) c.used.ensures at-of-chosen.of_chosen-rows.ensures
-    ∙ ap₂ (λ (m : ℕ) (l : List ℕ). answer points m l) (all-chosen s (full at)) s.select.ensures.servers_is
+    ∙ ap₂ (λ (m : ℕ) (l : List ℕ). answer points m l) (all-chosen s (full at)) s.select-c.ensures.servers_is
     ∙ ap (λ (all : List ℕ). answer all (k s) (servers_at (servers p) (first_different (k s) (servers p)))) (table at).points
     ∙ ap final threshold
     ∙ sym (weights-accepted (t p) (servers p) (not-refused (t p) (servers p) (none_applies p) enough))

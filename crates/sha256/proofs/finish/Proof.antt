@@ -25,7 +25,7 @@ returns c =
     let w : ℕ = length m / 64 * 64 in
     let rest = take_all (length m - w) (drop w m) (omega (arith, length-drop w m)) in
     c.bytes.ensures
-    ∙ ap bytes_of c.absorb-g.ensures
+    ∙ ap bytes_of c.absorb.ensures
     ∙ finished _ m a.d.now _ _ _ a.n w _ refl at_tail.absorb-g.ensures rest refl (omega arith) (omega arith)
     at_tail.tail.ensures
 

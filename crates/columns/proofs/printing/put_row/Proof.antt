@@ -46,7 +46,7 @@ add-result : tie.Need-overflow_add-result
 add-result c = let h = fits (else2-from-slice-known2 c) in omega arith
 
 same_length : tie.Need-shape_of-out
-same_length c = length-set c.put_columns.new.0 _ _ ∙ c.out-1.given
+same_length c = length-set c.put_columns.new.out _ _ ∙ c.out-1.given
 
 returns-3 : tie.Need-returns
 returns-3 c =

@@ -34,13 +34,13 @@ returns : tie.Need-returns-then-not-is_value invariant-loop decreases-loop
 returns c =
     let p = c.before in
     let at-loop = p.before.before.before in
-    sym (at-loop.loop-j.invariant ∙ left_stops _ (text p) (j p) (omega arith) (sym (holds p) ∙ not-true _ c.if-not-is_value.true))
+    sym (at-loop.loop-j.invariant ∙ left_stops _ (text p) (j p) (omega arith) (sym (holds p) ∙ c.if-not-is_value.true))
 
 loop-again : tie.Need-loop-j-preserved invariant-loop decreases-loop
 loop-again c =
     let p = c.before in
     let at-loop = p.before.before.before in
-    at-loop.loop-j.invariant ∙ left_more _ (text p) (j p) (omega arith) (sym (holds p) ∙ not-false _ c.if-not-is_value.false)
+    at-loop.loop-j.invariant ∙ left_more _ (text p) (j p) (omega arith) (sym (holds p) ∙ c.if-not-is_value.false)
 
 returns-2 : tie.Need-returns invariant-loop decreases-loop
 returns-2 c =

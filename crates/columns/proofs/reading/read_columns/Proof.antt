@@ -36,7 +36,7 @@ returns-3 c =
     let at-else2 = c.before.before in
     let a = (begin at-else2).args in
     not_read (length a.values.now) a.text.now a.values.now (sized at-else2)
-    (sym c.all_numbers.ensures ∙ not-true _ c.if-not-all_numbers.true)
+    (sym c.all_numbers.ensures ∙ c.if-not-all_numbers.true)
 
 fill-requires : tie.Need-fill-requires
 fill-requires c κs = let h = sized c.before.before.before in omega arith
@@ -48,7 +48,7 @@ returns-4 c =
     let at-else2 = at-else3.before.before in
     let a = (begin at-else2).args in
     all_read (length a.values.now) a.text.now a.values.now (sized at-else2)
-    (sym at-else3.all_numbers.ensures ∙ not-false _ at-else3.if-not-all_numbers.false) at_fill_lem.fill.ensures.filled
+    (sym at-else3.all_numbers.ensures ∙ at-else3.if-not-all_numbers.false) at_fill_lem.fill.ensures.filled
 
 pub read_columns_spec : {M : Type 1} → statement M
 read_columns_spec = tie.close (tie.spec returns returns-2 all-numbers-requires returns-3 fill-requires (λ c. search rules) returns-4)

@@ -40,7 +40,7 @@ returns c =
     let args = c.args in
     let points = args.points.now in
     let e : l.m ≡ args.k = omega arith in
-    c.mul-top.ensures
+    c.mul.ensures
     ∙ ap₂ times (l.invariant.1 ∙ ap (λ (n : ℕ). product_to n (factor_at points args.j args.z)) e)
     (c.inverse.ensures ∙ ap inverse (l.invariant.2 ∙ ap (λ (n : ℕ). product_to n (factor_at points args.j (get_or points args.j 0))) e))
 

@@ -103,7 +103,7 @@ loop-again c =
     (λ i h.
     let b : i < lane = omega (arith, n.ensures.1) in
     sum.ensures i b
-    ∙ sum_to_ext runs.count (λ j. times (entry lanes.last.0 j i) (get_or args.weights j 0))
+    ∙ sum_to_ext runs.count (λ j. times (entry lanes.new.out j i) (get_or args.weights j 0))
     (λ j. times (byte_at src runs.starts (l.q + i) j) (get_or args.weights j 0))
     (λ j hj. ap (λ (x : ℕ). times x (get_or args.weights j 0)) (lanes.ensures.0 j hj i b)))
     c.store.ensures in

@@ -35,7 +35,7 @@ returns c =
     let small : (j : ℕ) → get_or src j 0 < 256 = λ j. (at-weights.shared_slice_known-2-1.given j).fits in
     made runs.count runs.size fragment_room args.z (λ j. get_or w.result j 0) (direct_at runs.count xs args.z) src runs.starts xs _ _
     c.blank-bytes.ensures pre.3
-    (direct runs.count xs points pre.1 pre.2 args.z start.fits.z.fits) w.ensures small c.combine.ensures
+    (direct runs.count xs points pre.1 pre.2 args.z start.ranges.z.fits) w.ensures small c.combine.ensures
 
 pub value_spec : {M : Type 1} → statement M
 value_spec = tie.close (tie.spec (λ c κs. search rules) (λ c κs. search rules) (λ c. search rules) combine-requires returns)

@@ -26,7 +26,7 @@ loop-holds c =
       search rules,
       λ j h.
           sym (sum_to_one (λ i. times (get_or args.powers i 0) (entry args.a i j)) ∙ ap (λ (x : ℕ). times x (entry args.a 0 j)) start.requires.2
-          ∙ one-times (entry args.a 0 j) (entry-byte system_row args.a start.well-formed.0.0 0 j start.well-formed.0.1.1)),
+          ∙ one-times (entry args.a 0 j) (entry-byte system_row args.a start.well_formed.0.0 0 j start.well_formed.0.1.1)),
     )
 
 loop-again : tie.Need-loop-c-preserved invariant-loop decreases-loop

@@ -38,7 +38,7 @@ module _ (c : tie.In-Value-byte_field-2) where
   abbrev stamp : tie.In-Value-2
   stamp = c.before.before.before.before.before
 
-  flag-took : TookAt (byte_l 0 limit.held-most.result) (s stamp) (p1 stamp) c.flag-1.given.0.0 c.flag-1.given.0.1.0.at
+  flag-took : TookAt (byte_l 0 limit.held_most.result) (s stamp) (p1 stamp) c.flag-1.given.0.0 c.flag-1.given.0.1.0.at
   flag-took = rw c.flag-1.given.1 at c.byte_field.ensures
 
 -- ---- the needs
