@@ -105,7 +105,7 @@ module _ (P : Primitives) (s : Config) (key : List ℕ) (b : ℕ) (v : Server) (
   unfolding best
   best-ok c [] h k = h
   best-ok c (d ∷ ds) h k =
-      best-ok _ ds
+      best-ok (cond (valid P s key b v d && below c.stamp d.stamp) d c) ds
       (at-cond (valid P s key b v d && below c.stamp d.stamp) d c (any_candidate_f s).Ok (λ e. any-candidate s d k.0) (λ e. h)) k.1
 
   store_ok : (w : Write) → (write_f s).Ok w → is_some (lookup w.stamp v.history) ≡ false → leb capacity (length v.history) ≡ false
