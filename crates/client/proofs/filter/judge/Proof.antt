@@ -27,8 +27,8 @@ answer-is c = sym c.decide-decision.ensures.0
 
 found-requires : tie.Need-found-requires
 found-requires c κs =
-    let at-decision2 = c.before.before.before.before.before in
-    let at-decide = at-decision2.before.before.before in
+    let at-decision2 = c.before.before.before.before in
+    let at-decide = at-decision2.before.before in
     let at-slice-known = slice-known-from-decide at-decide in
     let a = at-slice-known.args in
     let p = at-slice-known.requires in
@@ -46,30 +46,30 @@ found-requires c κs =
 
 returns : tie.Need-returns-in-Refused
 returns c =
-    let at-decide = c.before.before.before.before.before in
+    let at-decide = c.before.before.before in
     let a = (slice-known-from-decide at-decide).args in
     let d = c.decision-1.given in
     rw c.refused.ensures (judged-refused a.t a.call a.kept.now a.out.now d.0.0 (answer-is at-decide ∙ ap decision_answer d.1))
 
 returns-2 : tie.Need-returns-in-Wait
 returns-2 c =
-    let at-decide = c.before.before.before.before in
+    let at-decide = c.before.before.before in
     let a = (slice-known-from-decide at-decide).args in
     rw c.more.ensures (judged_wait a.t a.call a.kept.now a.out.now
-    (answer-is at-decide ∙ ap decision_answer c.enum_told-1.given.1))
+    (answer-is at-decide ∙ ap decision_answer c.in-Wait.is))
 
 returns-3 : tie.Need-returns-in-Blank
 returns-3 c =
-    let at-decide = c.before.before.before.before in
+    let at-decide = c.before.before.before in
     let a = (slice-known-from-decide at-decide).args in
     rw c.enter.ensures (judged-blank a.t a.call a.kept.now a.out.now
-    (answer-is at-decide ∙ ap decision_answer c.enum_told-in-Blank-1.given.1))
+    (answer-is at-decide ∙ ap decision_answer c.in-Blank.is))
 
 returns-4 : tie.Need-returns-in-Found
 returns-4 c =
     let at-found = c.before.before.before.before in
-    let at-decision2 = at-found.before.before.before.before.before.before in
-    let at-decide = at-decision2.before.before.before in
+    let at-decision2 = at-found.before.before.before.before.before in
+    let at-decide = at-decision2.before.before in
     let a = (slice-known-from-decide at-decide).args in
     let d = at-decision2.decision-in-Found-1.given in
     at-found.found.ensures ∙ judged-found a.t a.call a.kept.now a.out.now d.0.0 d.0.1.0 d.0.1.1.0

@@ -22,7 +22,7 @@ use Rattle.client.proofs.list.put_entry.Tie as tie
 returns : tie.Need-returns-then-not-listed
 returns c =
     let a = c.args in
-    let e : listed_in a.t a.kept.now a.i ≡ false = sym c.listed.ensures ∙ not-true c.listed.result c.if-not-listed.true in
+    let e : listed_in a.t a.kept.now a.i ≡ false = sym c.listed.ensures ∙ c.if-not-listed.true in
     rw e (wrote_none a.out.now a.at)
 
 returns-2 : tie.Need-returns
@@ -34,7 +34,7 @@ returns-2 c =
     let p = at-shared-slice-known.requires in
     let K : Bytes a.kept.now = λ k. (at-shared-slice-known.shared_slice_known-1.given k).fits in
     let e : listed_in a.t a.kept.now a.i ≡ true = sym at-candidate-size.listed.ensures ∙
-    not-false at-candidate-size.listed.result at-candidate-size.if-not-listed.false in
+    at-candidate-size.if-not-listed.false in
     let D : List ℕ = bytes_at a.kept.now (candidates_place + candidate_slot * a.i) candidate_slot in
     let x : List ℕ = bytes_at D 0 (candidate_size_def (shelf a.t)) in
     let l : length x ≤ candidate_slot = omega (arith, part-most D 0 (candidate_size_def (shelf a.t)), p.0) in

@@ -56,7 +56,7 @@ returns c =
     let p = at-start.requires in
     let q = round-bytes a.party.t a.party.client a.server a.call a.kept.now a.call.tally.round refl ∙ store_bytes
     a.party.t a.party.client
-    a.server a.call a.kept.now a.call.tally.round at-match.in-2.keys1 p.1.1.0 p.1.1.1.0 in
+    a.server a.call a.kept.now a.call.tally.round at-match.in-2.is p.1.1.0 p.1.1.1.0 in
     (rw (at-match.head_of-head.ensures, at-match.request_kind.ensures) at c.make_store.ensures)
     ∙ ap (λ (x : List ℕ). whole_packet x a.out.now) (sym q)
 
@@ -66,7 +66,7 @@ returns-2 c =
     let a = (start-from-head-of at-match.before).args in
     let q = round-bytes a.party.t a.party.client a.server a.call a.kept.now a.call.tally.round refl ∙ chosen-bytes
     a.party.t a.party.client
-    a.server a.call a.kept.now a.call.tally.round at-match.in-3.keys2 in
+    a.server a.call a.kept.now a.call.tally.round at-match.in-3.is in
     (rw (at-match.head_of-head.ensures, at-match.request_kind.ensures) at c.make_chosen.ensures)
     ∙ ap (λ (x : List ℕ). whole_packet x a.out.now) (sym q)
 
@@ -77,7 +77,7 @@ returns-3 c =
     let a = at-start.args in
     let p = at-start.requires in
     let r = hand-round a.call p.1.1.1.1.1.1.0 in
-    let none = at-match.in_default.rest in
+    let none = at-match.in_default.in_default-own.rest in
     let q = round-bytes a.party.t a.party.client a.server a.call a.kept.now a.call.tally.round refl ∙ empty-bytes
     a.party.t a.party.client
     a.server a.call a.kept.now a.call.tally.round r.0 r.1 none.0.1 (λ e. none.1 (inl e)) p.1.1.1.1.1.1.1

@@ -27,7 +27,7 @@ take-collect-requires c κs =
     let r = ready-server a.party.t a.party.client a.call a.reply.now a.head p.0 in
     let l : length (drop head_size a.reply.now) ≤ candidate_slot = collect-length a.party.t a.party.client a.call a.reply.now
     a.head p.0
-    (λ k. (at-shared-slice-known.shared_slice_known-1.given k).fits) at-match.in-4.keys1 in
+    (λ k. (at-shared-slice-known.shared_slice_known-1.given k).fits) at-match.in-4.is in
     (f.1, (r.0, (r.1, (p.1.1.0, rw c.rest.ensures l))))
 
 returns : tie.Need-returns-in-4
@@ -39,7 +39,7 @@ returns c =
     let p = z.requires in
     λ writers keys. takes-collect a.party.t a.party.client writers keys a.call a.kept.now a.reply.now a.out.now a.head
     p.0 p.1.1.1
-    at-match.in-4.keys1 (λ k. (at-shared-slice-known.shared_slice_known-1.given k).fits) _
+    at-match.in-4.is (λ k. (at-shared-slice-known.shared_slice_known-1.given k).fits) _
     c.rest.ensures c.take_collect.result c.take_collect.ensures.0 _
     c.take_collect.ensures.1
 

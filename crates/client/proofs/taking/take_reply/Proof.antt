@@ -10,7 +10,7 @@ use Rattle.client.proofs.taking.take_reply.Tie as tie
 
 returns : tie.Need-returns-in_default
 returns c =
-    let z = c.before.before.before.before.before.before.before in
+    let z = c.before.before.before.before.before.before in
     let a = z.args in
     let p = z.requires in
     takes-refused a.party.t a.party.client a.writers.now a.keys.now a.call a.kept.now a.reply.now a.out.now
@@ -18,27 +18,27 @@ returns c =
     c.refused.ensures
     (take_broken a.party.t a.party.client a.writers.now a.keys.now a.call a.kept.now a.reply.now a.out.now p.0
     p.1.0
-    (rw c.enum_told-1.given.1 at c.read_packet.ensures))
+    (rw c.in_default.is at c.read_packet.ensures))
 
 -- Places far back, each named once: the place, and from where it is seen.
-abbrev start-from-passed : tie.In-Value-2 → tie.Start
-start-from-passed c = c.before.before.before.before.before.before
+abbrev start-from-passed : tie.In-Value → tie.Start
+start-from-passed c = c.before.before.before.before.before
 
-module _ (c : tie.In-Value-2) where
+module _ (c : tie.In-Value) where
   abbrev passed : Passed
-  passed = c.passed-1.given.0.0
+  passed = c.in-Value.passed
 
   read : TookPacket (start-from-passed c).args.reply.now passed.head passed.label passed.number
-  read = rw c.passed-1.given.1 at c.read_packet.ensures
+  read = rw c.in-Value.is at c.read_packet.ensures
 
 reply-refusal-requires : tie.Need-reply_refusal-n-requires
 reply-refusal-requires c κs =
-    let a = (start-from-passed c.before.before).args in
-    server_range a.reply.now (passed c.before.before).head (read c.before.before).packet
+    let a = (start-from-passed c.before).args in
+    server_range a.reply.now (passed c.before).head (read c.before).packet
 
 returns-2 : tie.Need-returns-then-n-ne0
 returns-2 c =
-    let at-passed = c.before.before.before.before.before in
+    let at-passed = c.before.before.before.before in
     let z = start-from-passed at-passed in
     let a = z.args in
     let p = z.requires in
@@ -51,7 +51,7 @@ returns-2 c =
 
 take-round-requires : tie.Need-take_round-requires
 take-round-requires c κs =
-    let at-passed = c.before.before.before.before.before.before in
+    let at-passed = c.before.before.before.before.before in
     let p = (start-from-passed at-passed).requires in (
       record {
         decoded = (read at-passed).packet;

@@ -56,7 +56,7 @@ returns-3 c =
     let k : a.b < most_servers = omega (arith, p.2, few p.0) in
     rw (agrees_nameless who.t who.marks a.kept.now q.slot a.d.now p.4 a.b k p.5 a.j l
     (is-marked who.marks a.j c.if-replied-j-eq0.false)
-    (sym c.names_at.ensures ∙ not-true c.names_at.result c.if-not-names_at.true))
+    (sym c.names_at.ensures ∙ c.if-not-names_at.true))
 
 alike-at-requires : tie.Need-alike_at-requires
 unfolding slot_held
@@ -74,7 +74,7 @@ alike-at-requires c κs =
       l,
       leader_full who.t who.marks a.kept.now q.slot a.d.now p.4 a.b k p.5,
       names_full (shelf who.t) (reply_slot_of a.kept.now a.j) (candidates_in (shelf who.t) a.kept.now (suc q.slot)) a.d.now
-          (sym c.names_at.ensures ∙ not-false c.names_at.result c.if-not-names_at.false),
+          (sym c.names_at.ensures ∙ c.if-not-names_at.false),
     )
 
 returns-4 : tie.Need-returns-then-not-alike_at
@@ -89,7 +89,7 @@ returns-4 c =
     let k : a.b < most_servers = omega (arith, p.2, few p.0) in
     rw (agrees_unlike who.t who.marks a.kept.now q.slot a.d.now p.4 a.b k p.5 a.j l
     (is-marked who.marks a.j at-names-at.if-replied-j-eq0.false)
-    (sym c.before.Alike-at.ensures ∙ not-true c.before.Alike-at.result c.if-not-alike_at.true))
+    (sym c.before.Alike-at.ensures ∙ c.if-not-alike_at.true))
 
 intact-at-requires : tie.Need-intact_at-requires
 unfolding slot_held
@@ -103,8 +103,7 @@ intact-at-requires c κs =
       p.0,
       p.3,
       names_full (shelf who.t) (reply_slot_of a.kept.now a.j) (candidates_in (shelf who.t) a.kept.now (suc q.slot)) a.d.now
-          (sym c.names_at.ensures ∙ not-false c.names_at.result
-          c.if-not-names_at.false),
+          (sym c.names_at.ensures ∙ c.if-not-names_at.false),
     )
 
 abbrev names-at-from-intact-at : tie.After-intact_at → tie.After-names_at
@@ -125,9 +124,8 @@ last c =
     let l : a.j < most_servers = omega (arith, p.3, few p.0) in
     let k : a.b < most_servers = omega (arith, p.2, few p.0) in
     agrees_last who.t who.marks a.kept.now q.slot a.d.now p.4 a.b k p.5 a.j l
-    (is-marked who.marks a.j at-names-at.if-replied-j-eq0.left) (sym at-names-at.names_at.ensures ∙ not-false at-names-at.names_at.result
-    c.if-not-names_at.false)
-    (sym c.before.before.Alike-at.ensures ∙ not-false c.before.before.Alike-at.result c.if-not-alike_at.false)
+    (is-marked who.marks a.j at-names-at.if-replied-j-eq0.left) (sym at-names-at.names_at.ensures ∙ c.if-not-names_at.false)
+    (sym c.before.before.Alike-at.ensures ∙ c.if-not-alike_at.false)
     ∙ sym c.intact_at.ensures
 
 returns-5 : tie.Need-returns-then-intact_at

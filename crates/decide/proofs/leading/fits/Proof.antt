@@ -45,7 +45,7 @@ returns-2 c =
     let l : a.j < most_servers = omega (arith, p.2, few p.0) in
     sym (fits-marked who.t who.marks a.kept.now q.slot a.d.now p.3 a.j l (is-marked who.marks a.j
     c.if-replied-j-eq0.false)
-    ∙ rw (sym c.names_at.ensures ∙ not-true c.names_at.result c.if-not-names_at.true))
+    ∙ rw (sym c.names_at.ensures ∙ c.if-not-names_at.true))
 
 intact-at-requires : tie.Need-intact_at-requires
 unfolding slot_held
@@ -58,7 +58,7 @@ intact-at-requires c κs =
       p.0,
       p.2,
       names_full (shelf who.t) (reply_slot_of a.kept.now a.j) (candidates_in (shelf who.t) a.kept.now (suc q.slot)) a.d.now
-          (sym c.names_at.ensures ∙ not-false c.names_at.result c.if-not-names_at.false),
+          (sym c.names_at.ensures ∙ c.if-not-names_at.false),
     )
 
 returns-3 : tie.Need-returns
@@ -72,7 +72,7 @@ returns-3 c =
     c.intact_at.ensures
     ∙ sym (fits-marked who.t who.marks a.kept.now q.slot a.d.now p.3 a.j l
     (is-marked who.marks a.j c.if-replied-j-eq0.false)
-    ∙ rw (sym c.names_at.ensures ∙ not-false c.names_at.result c.if-not-names_at.false))
+    ∙ rw (sym c.names_at.ensures ∙ c.if-not-names_at.false))
 
 pub fits_spec : {M : Type 1} → statement M
 fits_spec = tie.close (tie.spec element-copy-out-if1 returns names-at-requires returns-2 intact-at-requires returns-3)

@@ -46,7 +46,7 @@ returns-3 c =
     (ne_eqb (get_or a.reply.now stamp_size 0) 0 at-size-of.if-reply-eq0.false) (sym (same_heads a.reply.now a.candidate.now
     (λ k. (at-shared-slice-known2.shared_slice_known-1.given k).fits)
     (λ k. (at-shared-slice-known2.shared_slice_known-2-1.given k).fits) (omega (arith, p.2)) (omega (arith, p.3)))
-    ∙ sym c.same.ensures ∙ not-true c.same.result c.if-not-same.true))
+    ∙ sym c.same.ensures ∙ c.if-not-same.true))
 
 abbrev size-of-from-else3 : tie.Else-not-same → tie.After-size_of-n
 size-of-from-else3 c = c.before.before.before.before.before
@@ -84,7 +84,7 @@ returns-4 c =
     let q : same_stamp (stamp_at_def a.reply.now) (stamp_at_def a.candidate.now) ≡ true =
     sym (same_heads a.reply.now a.candidate.now (λ k. (at-shared-slice-known2.shared_slice_known-1.given k).fits)
     (λ k. (at-shared-slice-known2.shared_slice_known-2-1.given k).fits) (omega (arith, p.2)) (omega (arith, p.3)))
-    ∙ sym at-else3.same.ensures ∙ not-false at-else3.same.result at-else3.if-not-same.false in
+    ∙ sym at-else3.same.ensures ∙ at-else3.if-not-same.false in
     let at : ℕ = c.digests_at.result + digest_size * c.servers.result in
     let e : at ≡ digests_in_def (shelf a.t) a.reply.now + digests_size_def (shelf a.t) =
     omega (

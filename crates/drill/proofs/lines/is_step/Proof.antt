@@ -8,24 +8,24 @@ use Rattle.drill.proofs.lines.is_step.Tie as tie
 
 returns : tie.Need-returns-in-1
 unfolding is_step_def
-returns c = rw c.in-1.keys1 c.is_write.ensures
+returns c = rw c.in-1.is c.is_write.ensures
 
 returns-2 : tie.Need-returns-in-2
 unfolding is_step_def
-returns-2 c = ⊎_elim (λ e. rw e c.is_alone.ensures) (λ e. rw e c.is_alone.ensures) c.in-2.keys2
+returns-2 c = ⊎_elim (λ e. rw e c.is_alone.ensures) (λ e. rw e c.is_alone.ensures) c.in-2.is
 
 returns-3 : tie.Need-returns-in-3
 unfolding is_step_def
-returns-3 c = rw c.in-3.keys3 c.no_content.ensures
+returns-3 c = rw c.in-3.is c.no_content.ensures
 
 returns-4 : tie.Need-returns-in-4
 unfolding is_step_def
-returns-4 c = rw c.in-4.keys4 c.is_blanking.ensures
+returns-4 c = rw c.in-4.is c.is_blanking.ensures
 
 returns-5 : tie.Need-returns-in_default
 unfolding is_step_def
 returns-5 c =
-    let none = c.in_default.rest in
+    let none = c.in_default.in_default-own.rest in
     rw (
       ne_eqb _ _ none.0.0.0.1,
       ne_eqb _ _ (λ e. none.0.0.1 (inl e)),

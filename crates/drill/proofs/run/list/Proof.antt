@@ -26,10 +26,10 @@ abbrev start-from-else1 : tie.Else-sheet-eq0 → tie.Start
 start-from-else1 c = c.before.before.before.before
 
 abbrev else1-from-enum-told : tie.In_default → tie.Else-sheet-eq0
-else1-from-enum-told c = c.before.before.before
+else1-from-enum-told c = c.before.before
 
-abbrev else1-from-l : tie.In-Line-2 → tie.Else-sheet-eq0
-else1-from-l c = c.before.before.before
+abbrev else1-from-l : tie.In-Line → tie.Else-sheet-eq0
+else1-from-l c = c.before.before
 
 module _ (c : tie.Else-sheet-eq0) where
   abbrev sheet : List ℕ
@@ -44,18 +44,18 @@ module _ (c : tie.Else-sheet-eq0) where
   room : 0 + row_size ≤ length given
   room = first-room sheet given (start-from-else1 c).requires.1
 
-module _ (c : tie.In-Line-2) where
+module _ (c : tie.In-Line) where
   abbrev line : Line
-  line = c.l-1.given.0.0
+  line = c.in-Line.l
 
   first-is : first_line_def (line_at (sheet (else1-from-l c)) 0) ≡ some line
-  first-is = line-told c.first_line.ensures c.l-1.given.1
+  first-is = line-told c.first_line.ensures c.in-Line.is
 
-abbrev l-from-then2 : tie.Then-outside → tie.In-Line-2
-l-from-then2 c = c.before.before.before.before
+abbrev l-from-then2 : tie.Then-outside → tie.In-Line
+l-from-then2 c = c.before.before.before
 
-abbrev l-from-else2 : tie.Else-outside → tie.In-Line-2
-l-from-else2 c = c.before.before.before.before
+abbrev l-from-else2 : tie.Else-outside → tie.In-Line
+l-from-else2 c = c.before.before.before
 
 right-t : (c : tie.Else-outside) → (1 ≤ (line (l-from-else2 c)).client) × ((line (l-from-else2 c)).client ≤ top_faults)
 right-t c = is_in 1 top_faults _ c.outside.ensures c.if-outside.false
@@ -75,7 +75,7 @@ returns-2 c =
     let at-enum-told = c.before.before.before.before in
     let at-else1 = else1-from-enum-told at-enum-told in
     lists-117 (sheet at-else1) (given at-else1) (stands at-else1)
-    (line-told at-enum-told.first_line.ensures at-enum-told.enum_told-1.given.1) c.put_last.ensures
+    (line-told at-enum-told.first_line.ensures at-enum-told.in_default.is) c.put_last.ensures
 
 put-last-requires-2 : tie.Need-put_last-requires-then-outside
 put-last-requires-2 c κs = room (else1-from-l (l-from-then2 c.before))

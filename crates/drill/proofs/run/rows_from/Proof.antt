@@ -70,10 +70,10 @@ module _ (c : tie.At-loop-at invariant-loop decreases-loop) where
 -- ---- at a line
 
 abbrev line-from-enum-told : tie.In_default invariant-loop decreases-loop → tie.In-loop-at invariant-loop decreases-loop
-line-from-enum-told c = c.before.before.before
+line-from-enum-told c = c.before.before
 
-abbrev line-from-l : tie.In-Line-2 invariant-loop decreases-loop → tie.In-loop-at invariant-loop decreases-loop
-line-from-l c = c.before.before.before
+abbrev line-from-l : tie.In-Line invariant-loop decreases-loop → tie.In-loop-at invariant-loop decreases-loop
+line-from-l c = c.before.before
 
 module _ (c : tie.In-loop-at invariant-loop decreases-loop) where
   abbrev line : Text
@@ -87,8 +87,8 @@ module _ (c : tie.In-loop-at invariant-loop decreases-loop) where
       let p = c.before in
       row_room (t p) (sheet p) (given p) (start p) (out p) (work p) (place p) (n p) (begun p) (done p) (going p) stands
 
-step_is : (c : tie.In-Line-2 invariant-loop decreases-loop) → step_line_def (n (line-from-l c).before) (line (line-from-l c)) ≡ some c.l-1.given.0.0
-step_is c = line-told c.step_line.ensures c.l-1.given.1
+step_is : (c : tie.In-Line invariant-loop decreases-loop) → step_line_def (n (line-from-l c).before) (line (line-from-l c)) ≡ some c.in-Line.l
+step_is c = line-told c.step_line.ensures c.in-Line.is
 
 -- ---- the needs
 
@@ -119,12 +119,12 @@ returns c =
     let at-line = line-from-enum-told at-enum-told in
     let p = at-line.before in
     going_last (t p) (sheet p) (given p) (start p) (out p) (work p) (place p) (n p) (begun p) (done p) (going p) (stands at-line)
-    (line-told at-enum-told.step_line.ensures at-enum-told.enum_told-1.given.1)
+    (line-told at-enum-told.step_line.ensures at-enum-told.in_default.is)
     c.put_last.ensures
 
 one-line-requires : tie.Need-one_line-begun-requires invariant-loop decreases-loop
 one-line-requires c κs =
-    let at-l = c.before.before.before in
+    let at-l = c.before.before in
     let at-line = line-from-l at-l in
     let p = at-line.before in
     let h = line-number (n p) (line at-line) _ (step_is at-l) in
@@ -133,8 +133,8 @@ one-line-requires c κs =
       (line_form (n p) (line at-line) _ (step_is at-l), room at-line),
     )
 
-abbrev l-from-one-line : tie.After-one_line-begun invariant-loop decreases-loop → tie.In-Line-2 invariant-loop decreases-loop
-l-from-one-line c = c.before.before.before.before
+abbrev l-from-one-line : tie.After-one_line-begun invariant-loop decreases-loop → tie.In-Line invariant-loop decreases-loop
+l-from-one-line c = c.before.before.before
 
 abbrev one-line-from-next-line : tie.After-next_line-at invariant-loop decreases-loop → tie.After-one_line-begun invariant-loop decreases-loop
 one-line-from-next-line c = c.before.before.before.before.before

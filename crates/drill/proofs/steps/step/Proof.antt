@@ -13,37 +13,37 @@ cast-write-2 : tie.Need-overflow_cast-l-in-1
 cast-write-2 c =
     let at-match = c.before.before.before in
     let at-start = start-from-struct-known2 at-match.before in
-    let h = write-fill at-start.args.l at-match.in-1.keys1 at-start.requires.1 in omega arith
+    let h = write-fill at-start.args.l at-match.in-1.is at-start.requires.1 in omega arith
 
 returns : tie.Need-returns-in-1
 returns c =
     let at-match = c.before.before.before.before.before.before in
     let a = (start-from-struct-known2 at-match.before).args in
-    step_write a.t a.begun a.l a.work.now _ at-match.in-1.keys1 c.write.ensures
+    step_write a.t a.begun a.l a.work.now _ at-match.in-1.is c.write.ensures
 
 returns-2 : tie.Need-returns-in-2
 returns-2 c =
     let at-match = c.before.before.before.before in
     let a = (start-from-struct-known2 at-match.before).args in
-    step_read a.t a.begun a.l a.work.now _ at-match.in-2.keys2 c.read-s.ensures
+    step_read a.t a.begun a.l a.work.now _ at-match.in-2.is c.read-s.ensures
 
 returns-3 : tie.Need-returns-in-3
 returns-3 c =
     let at-match = c.before.before.before.before in
     let a = (start-from-struct-known2 at-match.before).args in
-    step-visit a.t a.begun a.l a.work.now _ at-match.in-3.keys3 c.visit_line-s.ensures
+    step-visit a.t a.begun a.l a.work.now _ at-match.in-3.is c.visit_line-s.ensures
 
 returns-4 : tie.Need-returns-in-4
 returns-4 c =
     let at-match = c.before.before.before.before in
     let a = (start-from-struct-known2 at-match.before).args in
-    step-blank a.t a.begun a.l a.work.now _ at-match.in-4.keys4 c.blank_line-s.ensures
+    step-blank a.t a.begun a.l a.work.now _ at-match.in-4.is c.blank_line-s.ensures
 
 returns-5 : tie.Need-returns-in_default
 returns-5 c =
     let at-match = c.before.before.before.before in
     let a = (start-from-struct-known2 at-match.before).args in
-    let none = at-match.in_default.rest in
+    let none = at-match.in_default.in_default-own.rest in
     step-stop a.t a.begun a.l a.work.now _ none.0.0.0.1 none.0.0.1 none.0.1 none.1 c.stop-s.ensures
 
 pub step_spec : {M : Type 1} → statement M

@@ -10,14 +10,14 @@ use Rattle.embed.proofs.packets.cendrulas_packet_check.Tie as tie
 returns : tie.Need-returns-in_default
 returns c =
     let s = c.args.packet.now in
-    c.pack.ensures ∙ ap (λ (n : ℕ). packed n 0 0 0) (sym (layout_broken s (rw c.enum_told-in_default-1.given.1 at
+    c.pack.ensures ∙ ap (λ (n : ℕ). packed n 0 0 0) (sym (layout_broken s (rw c.in_default.is at
     c.read_packet.ensures)))
 
 returns-2 : tie.Need-returns
 returns-2 c =
-    let at-read-packet = c.before.before.before in
+    let at-read-packet = c.before.before in
     let s = at-read-packet.args.packet.now in
-    c.pack-2.ensures ∙ ap (λ (n : ℕ). packed n 0 0 0) (sym (layout-kept s _ (rw c.enum_told-1.given.1 at
+    c.pack-2.ensures ∙ ap (λ (n : ℕ). packed n 0 0 0) (sym (layout-kept s _ (rw c.in-Value.is at
     at-read-packet.read_packet.ensures).packet))
 
 pub cendrulas_packet_check_spec : {M : Type 1} → statement M

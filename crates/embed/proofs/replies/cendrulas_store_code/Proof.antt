@@ -16,21 +16,21 @@ use Rattle.embed.proofs.replies.cendrulas_store_code.Tie as tie
 returns : tie.Need-returns-in_default
 returns c =
     let s = c.args.packet.now in
-    c.pack.ensures ∙ sym (code_broken s (rw c.enum_told-1.given.1 at c.read_packet.ensures))
+    c.pack.ensures ∙ sym (code_broken s (rw c.in_default.is at c.read_packet.ensures))
 
 -- What was read, from the place past it.
-module _ (c : tie.In-Value-2) where
+module _ (c : tie.In-Value) where
   abbrev s : List ℕ
   s = c.args.packet.now
 
   abbrev passed : Passed
-  passed = c.passed-1.given.0.0
+  passed = c.in-Value.passed
 
   read : TookPacket s passed.head passed.label passed.number
-  read = rw c.passed-1.given.1 at c.read_packet.ensures
+  read = rw c.in-Value.is at c.read_packet.ensures
 
-abbrev passed-from-head : tie.After-head-1 → tie.In-Value-2
-passed-from-head c = c.before.before
+abbrev passed-from-head : tie.After-head-1 → tie.In-Value
+passed-from-head c = c.before
 
 returns-2 : tie.Need-returns-then-head-ne-STORE_REPLY
 returns-2 c =

@@ -29,7 +29,7 @@ cast-count c =
 returns : tie.Need-returns-in_default
 returns c =
     let at-blank = c.before.before.before.before in
-    let at-choose = at-blank.before.before.before in
+    let at-choose = at-blank.before.before in
     let at_rest = rest-from-choose at-choose in
     λ o own dec k room.
     let z = start-from-rest at_rest in
@@ -38,13 +38,13 @@ returns c =
     filter-nothing (λ i. (slices.slice_known-1.given i).fits) a.key a.packet.now (λ i. (slices.shared_slice_known-1.given i).fits)
     a.out.now a.passed.head o own dec k room at_rest.rest.ensures at-choose.rest-list.ensures
     (z.requires.1 ∙ ap (λ (d : List ℕ). get_or d 0 0) (sym at_rest.rest.ensures)) at-choose.choose.result
-    at-choose.choose.ensures at-blank.enum_told-1.given.1 at-blank.blank.ensures c.reply_held.ensures
+    at-choose.choose.ensures at-blank.in_default.is at-blank.blank.ensures c.reply_held.ensures
 
 returns-2 : tie.Need-returns
 returns-2 c =
     let at-reply-held2 = c.before.before.before.before.before.before in
     let at_slot = at-reply-held2.before.before.before.before in
-    let at-choose = at_slot.before.before.before in
+    let at-choose = at_slot.before in
     let at_rest = rest-from-choose at-choose in
     λ o own dec k room.
     let z = start-from-rest at_rest in
@@ -53,7 +53,7 @@ returns-2 c =
     filter-chosen (λ i. (slices.slice_known-1.given i).fits) a.key a.packet.now (λ i. (slices.shared_slice_known-1.given i).fits)
     a.out.now a.passed.head o own dec k room at_rest.rest.ensures at-choose.rest-list.ensures
     (z.requires.1 ∙ ap (λ (d : List ℕ). get_or d 0 0) (sym at_rest.rest.ensures)) at-choose.choose.result
-    at-choose.choose.ensures at_slot.i-1.given.1 at_slot.slot-chosen.ensures at-reply-held2.stamp_at.ensures
+    at-choose.choose.ensures at_slot.in-At.is at_slot.slot-chosen.ensures at-reply-held2.stamp_at.ensures
     at-reply-held2.reply_held-r.ensures c.raise.ensures
 
 pub filter_spec : {M : Type 1} → statement M

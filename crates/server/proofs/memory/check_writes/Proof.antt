@@ -21,54 +21,54 @@ loop-holds : tie.Need-loop-i-init invariant-loop decreases-loop
 loop-holds c = (omega arith, check_none _ _ _ c.requires.0 c.requires.1)
 
 -- Places far back, each named once: the place, and from where it is seen.
-abbrev loop-from-label : tie.In-Value-2 invariant-loop decreases-loop → tie.At-loop-i invariant-loop decreases-loop
-loop-from-label c = c.before.before.before.before
+abbrev loop-from-label : tie.In-Value invariant-loop decreases-loop → tie.At-loop-i invariant-loop decreases-loop
+loop-from-label c = c.before.before.before
 
-abbrev label-from-next : tie.In-Value-share_field-2 invariant-loop decreases-loop → tie.In-Value-2 invariant-loop decreases-loop
-label-from-next c = c.before.before.before.before
+abbrev label-from-next : tie.In-Value-share_field invariant-loop decreases-loop → tie.In-Value invariant-loop decreases-loop
+label-from-next c = c.before.before
 
 -- the stamp that was let through
-stamp_is : (c : tie.In-Value-2 invariant-loop decreases-loop)
-    → TookLabelled stamp_l (loop-from-label c).args.memory.now (loop-from-label c).loop-i.at c.label-1.given.0.0
-    c.label-1.given.0.1.0 c.label-1.given.0.1.1.0.at
-stamp_is c = rw c.label-1.given.1 at c.stamp_field.ensures
+stamp_is : (c : tie.In-Value invariant-loop decreases-loop)
+    → TookLabelled stamp_l (loop-from-label c).args.memory.now (loop-from-label c).loop-i.at c.in-Value.label
+    c.in-Value.field-1 c.in-Value.share.at
+stamp_is c = rw c.in-Value.is at c.stamp_field.ensures
 
 -- the write that was let through
-took : (c : tie.In-Value-share_field-2 invariant-loop decreases-loop)
+took : (c : tie.In-Value-share_field invariant-loop decreases-loop)
     → TookLabelled (write_l (shelf (loop-from-label (label-from-next c)).args.t))
     (loop-from-label (label-from-next c)).args.memory.now
-    (loop-from-label (label-from-next c)).loop.at (label-from-next c).label-1.given.0.0 c.next-1.given.0.0 c.next-1.given.0.1.0.at
+    (loop-from-label (label-from-next c)).loop.at (label-from-next c).in-Value.label c.in-Value-share_field.field-0 c.in-Value-share_field.next.at
 took c =
     let at_label = label-from-next c in
     write-took (shelf (loop-from-label at_label).args.t) (stamp_is at_label)
-    (rw c.next-1.given.1 at c.share_field.ensures)
+    (rw c.in-Value-share_field.is at c.share_field.ensures)
 
 returns : tie.Need-returns-in_default invariant-loop decreases-loop
 unfolding write_f
 returns c =
     check-stop _ c.loop-i.invariant.1 (omega arith)
-    (stops-via _ _ _ (stops_first _ _ (rw c.enum_told-1.given.1 at c.stamp_field.ensures)))
+    (stops-via _ _ _ (stops_first _ _ (rw c.in_default.is at c.stamp_field.ensures)))
 
 returns-2 : tie.Need-returns-in_default-share_field invariant-loop decreases-loop
 unfolding write_f
 returns-2 c =
-    let at_label = c.before.before.before.before in
+    let at_label = c.before.before in
     check-stop _ (loop-from-label at_label).loop-i.invariant.1 (omega arith)
-    (stops-via _ _ _ (stops_second _ _ (stamp_is at_label).took.leaves (rw c.enum_told-in_default-share_field-1.given.1 at c.share_field.ensures)))
+    (stops-via _ _ _ (stops_second _ _ (stamp_is at_label).took.leaves (rw c.in_default-share_field.is at c.share_field.ensures)))
 
 repeats-requires : tie.Need-repeats-requires invariant-loop decreases-loop
-repeats-requires c κs = last-rank _ (took c.before.before).label c.rank_of-key.ensures
+repeats-requires c κs = last-rank _ (took c.before).label c.rank_of-key.ensures
 
 returns-3 : tie.Need-returns-then-repeats invariant-loop decreases-loop
 returns-3 c =
-    let at_next = c.before.before.before.before in
+    let at_next = c.before.before.before in
     check-held _ (loop-from-label (label-from-next at_next)).loop.invariant.1 (omega arith) (took at_next).took.leaves _ c.repeats.ensures
     c.if-repeats.true
 
 loop-again : tie.Need-loop-i-preserved invariant-loop decreases-loop
 loop-again c =
     let at-repeats = c.before.before in
-    let at_next = at-repeats.before.before.before in
+    let at_next = at-repeats.before.before in
     let at_label = label-from-next at_next in
     let at-loop = loop-from-label at_label in
     let left = at_label.loop-i-test.taken in

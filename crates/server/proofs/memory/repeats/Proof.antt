@@ -24,18 +24,18 @@ find-ranked-requires c κs = rw c.rest.ensures (known-from-else1 c.before).requi
 
 returns-2 : tie.Need-returns-in_default
 returns-2 c =
-    let at_rest = c.before.before.before in
+    let at_rest = c.before.before in
     let at-known = known-from-else1 at_rest.before in
     let a = at-known.args in repeats-found a.memory.now a.read
-    (λ i. (at-known.shared_slice_known-1.given i).fits) at_rest.rest.ensures c.enum_told-in_default-1.given.1
+    (λ i. (at-known.shared_slice_known-1.given i).fits) at_rest.rest.ensures c.in_default.is
     c.find_ranked.ensures
 
 returns-3 : tie.Need-returns
 returns-3 c =
-    let at_rest = c.before.before.before in
+    let at_rest = c.before.before in
     let at-known = known-from-else1 at_rest.before in
     let a = at-known.args in repeats_none a.memory.now a.read
-    (λ i. (at-known.shared_slice_known-1.given i).fits) at_rest.rest.ensures c.enum_told-1.given.1
+    (λ i. (at-known.shared_slice_known-1.given i).fits) at_rest.rest.ensures c.in-Nothing.is
     c.find_ranked.ensures
 
 pub repeats_spec : {M : Type 1} → statement M

@@ -12,15 +12,15 @@ start-from-rest c = c.before.before.before.before
 returns : tie.Need-returns-in_default
 returns c =
     let at-enum-told2 = c.before.before.before.before in
-    let at_rest = at-enum-told2.before.before.before in
+    let at_rest = at-enum-told2.before.before in
     λ key o own dec k room.
     let a = (start-from-rest at_rest).args in
     answer-held (λ i. (at_rest.slice_known-1.given i).fits) a.packet.now
     (λ i. (at_rest.shared_slice_known-1.given i).fits) a.out.now a.head key o own dec k room at_rest.rest-write.ensures
-    at-enum-told2.find.ensures at-enum-told2.enum_told-in_default-1.given.1 c.store_reply.ensures
+    at-enum-told2.find.ensures at-enum-told2.in_default.is c.store_reply.ensures
 
 abbrev rest-from-enum-told : tie.In-Nothing → tie.After-rest-write
-rest-from-enum-told c = c.before.before.before
+rest-from-enum-told c = c.before.before
 
 returns-2 : tie.Need-returns-then-opened-ge-CAPACITY
 returns-2 c =
@@ -30,7 +30,7 @@ returns-2 c =
     let a = (start-from-rest at_rest).args in
     answer_full (λ i. (at_rest.slice_known-1.given i).fits) a.packet.now
     (λ i. (at_rest.shared_slice_known-1.given i).fits) a.out.now a.head key o own dec k room at_rest.rest-write.ensures
-    at-enum-told.find.ensures at-enum-told.enum_told-1.given.1 (omega arith) c.store_reply-then-opened-ge-CAPACITY.ensures
+    at-enum-told.find.ensures at-enum-told.in-Nothing.is (omega arith) c.store_reply-then-opened-ge-CAPACITY.ensures
 
 returns-3 : tie.Need-returns
 returns-3 c =
@@ -40,7 +40,7 @@ returns-3 c =
     λ key o own dec k room.
     let a = (start-from-rest at_rest).args in
     answer-kept (λ i. (at_rest.slice_known-1.given i).fits) a.packet.now (λ i. (at_rest.shared_slice_known-1.given i).fits) a.out.now a.head key o own dec k room at_rest.rest-write.ensures
-    at-enum-told.find.ensures at-enum-told.enum_told-1.given.1 (omega arith)
+    at-enum-told.find.ensures at-enum-told.in-Nothing.is (omega arith)
     at-keep-write.keep_write.ensures c.store_reply-2.ensures
 
 pub store_spec : {M : Type 1} → statement M

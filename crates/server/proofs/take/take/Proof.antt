@@ -17,39 +17,39 @@ start-from-else1 c = c.before.before.before.before
 
 returns-2 : tie.Need-returns-in_default
 returns-2 c =
-    let at-else1 = c.before.before.before.before in
+    let at-else1 = c.before.before.before in
     let a = (start-from-else1 at-else1).args in
     take_broken a.memory.now a.key.now a.packet.now a.out.now at-else1.if-memory-ne-MEMORY.false
-    (rw c.enum_told-1.given.1 at c.before.before.before.«open».ensures) c.refused-in_default.ensures
+    (rw c.in_default.is at c.before.before.before.«open».ensures) c.refused-in_default.ensures
 
-abbrev else1-from-opened : tie.In-Value-2 → tie.Else-memory-ne-MEMORY
-else1-from-opened c = c.before.before.before
+abbrev else1-from-opened : tie.In-Value → tie.Else-memory-ne-MEMORY
+else1-from-opened c = c.before.before
 
-opens : (c : tie.In-Value-2) → OpenedAs (start-from-else1 (else1-from-opened c)).args.memory.now c.opened-1.given.0.0
-opens c = rw c.opened-1.given.1 at c.before.before.«open».ensures
+opens : (c : tie.In-Value) → OpenedAs (start-from-else1 (else1-from-opened c)).args.memory.now c.in-Value.opened
+opens c = rw c.in-Value.is at c.before.before.«open».ensures
 
 returns-3 : tie.Need-returns-in_default-read_packet
 returns-3 c =
-    let at-opened = c.before.before.before.before.before in
+    let at-opened = c.before.before.before in
     let at-else1 = else1-from-opened at-opened in
     let a = (start-from-else1 at-else1).args in
     let m = opens at-opened in
     take_unread a.memory.now a.key.now a.packet.now a.out.now at-else1.if-memory-ne-MEMORY.left m
-    (rw c.enum_told-in_default-read_packet-1.given.1 at c.read_packet.ensures) c.refused-in_default-read_packet.ensures
+    (rw c.in_default-read_packet.is at c.read_packet.ensures) c.refused-in_default-read_packet.ensures
 
-abbrev opened-from-passed : tie.In-Value-read_packet-2 → tie.In-Value-2
-opened-from-passed c = c.before.before.before.before
+abbrev opened-from-passed : tie.In-Value-read_packet → tie.In-Value
+opened-from-passed c = c.before.before
 
-module _ (c : tie.In-Value-read_packet-2) where
+module _ (c : tie.In-Value-read_packet) where
   abbrev passed : Passed
-  passed = c.passed-1.given.0.0
+  passed = c.in-Value-read_packet.passed
 
   read : TookPacket (start-from-else1 (else1-from-opened (opened-from-passed c))).args.packet.now passed.head passed.label passed.number
-  read = rw c.passed-1.given.1 at c.read_packet.ensures
+  read = rw c.in-Value-read_packet.is at c.read_packet.ensures
 
 returns-4 : tie.Need-returns-then-number-ne0
 returns-4 c =
-    let at-passed = c.before.before.before.before.before.before in
+    let at-passed = c.before.before.before.before.before in
     let at-opened = opened-from-passed at-passed in
     let at-else1 = else1-from-opened at-opened in
     let a = (start-from-else1 at-else1).args in
@@ -61,14 +61,14 @@ returns-4 c =
 answer-requires : tie.Need-answer-requires
 answer-requires c κs =
     let at-else2 = c.before.before.before in
-    let at-passed = at-else2.before.before.before.before.before in
+    let at-passed = at-else2.before.before.before.before in
     (server_least (opens (opened-from-passed at-passed)), (read at-passed).number)
 
 returns-5 : tie.Need-returns
 returns-5 c =
     let at-answer = c.before.before.before.before in
     let at-else2 = at-answer.before.before.before.before in
-    let at-passed = at-else2.before.before.before.before.before in
+    let at-passed = at-else2.before.before.before.before in
     let at-opened = opened-from-passed at-passed in
     let at-else1 = else1-from-opened at-opened in
     let a = (start-from-else1 at-else1).args in

@@ -7,14 +7,14 @@ use Rattle.server.proofs.valid.by_history.Tie as tie
 returns : tie.Need-returns-in_default
 returns c =
     let a = c.args in
-    history_none a.memory.now a.opened a.candidate.now a.digest c.find.ensures c.enum_told-1.given.1
+    history_none a.memory.now a.opened a.candidate.now a.digest c.find.ensures c.in_default.is
 
 returns-2 : tie.Need-returns
 returns-2 c =
     let at_rest = c.before.before.before.before in
-    let at-find = at_rest.before.before.before.before in
+    let at-find = at_rest.before.before in
     let a = at-find.args in
-    history-found a.memory.now a.opened a.candidate.now a.digest at-find.find.ensures at_rest.at-1.given.1
+    history-found a.memory.now a.opened a.candidate.now a.digest at-find.find.ensures at_rest.in-At.is
     at_rest.rest.ensures c.rest-2.ensures c.nonce_digest-found.ensures c.same.ensures
 
 pub by_history_spec : {M : Type 1} → statement M

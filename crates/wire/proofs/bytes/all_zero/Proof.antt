@@ -28,8 +28,7 @@ returns c =
     let at-loop = c.before.before.before.before in
     let s = at-loop.args.s.now in
     let l = at-loop.loop-at in
-    sym (l.invariant.1 ∙ chunk-other s l.at (l.at + 256 - l.at) (sym c.joined_zero.ensures ∙ not-true c.joined_zero.result
-    c.if-not-joined_zero.true))
+    sym (l.invariant.1 ∙ chunk-other s l.at (l.at + 256 - l.at) (sym c.joined_zero.ensures ∙ c.if-not-joined_zero.true))
 
 loop-again : tie.Need-loop-at-preserved invariant-loop decreases-loop
 loop-again c =
@@ -38,8 +37,7 @@ loop-again c =
     let l = at-loop.loop-at in
     let e : l.at + (l.at + 256 - l.at) ≡ l.at + 256 = omega arith in (
       omega arith,
-      l.invariant.1 ∙ (chunk-zero s l.at (l.at + 256 - l.at) (sym c.joined_zero.ensures ∙ not-false
-          c.joined_zero.result c.if-not-joined_zero.false) ∙ ap (λ (k : ℕ). zeros (drop k s)) e),
+      l.invariant.1 ∙ (chunk-zero s l.at (l.at + 256 - l.at) (sym c.joined_zero.ensures ∙ c.if-not-joined_zero.false) ∙ ap (λ (k : ℕ). zeros (drop k s)) e),
     )
 
 joined-zero-requires-2 : tie.Need-joined_zero-requires-2 invariant-loop decreases-loop

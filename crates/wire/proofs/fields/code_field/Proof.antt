@@ -10,17 +10,17 @@ use Rattle.wire.proofs.fields.code_field.Tie as tie
 
 returns : tie.Need-returns-in_default
 unfolding code_f
-returns c = stops-kept _ _ (rw c.enum_told-1.given.1 at c.byte_field.ensures)
+returns c = stops-kept _ _ (rw c.in_default.is at c.byte_field.ensures)
 
 returns-2 : tie.Need-returns-then-v-eq0
-returns-2 c = code-zero (rw c.v-1.given.1 at c.byte_field.ensures) (omega arith)
+returns-2 c = code-zero (rw c.in-Value.is at c.byte_field.ensures) (omega arith)
 
 returns-3 : tie.Need-returns-then-v
-returns-3 c = code_stops (rw c.v-1.given.1 at c.byte_field.ensures)
+returns-3 c = code_stops (rw c.in-Value.is at c.byte_field.ensures)
     c.if-v-eq0.false (omega arith)
 
 returns-4 : tie.Need-returns
-returns-4 c = code-high (rw c.v-1.given.1 at c.byte_field.ensures)
+returns-4 c = code-high (rw c.in-Value.is at c.byte_field.ensures)
     c.if-v-eq0.false (omega arith)
 
 pub code_field_spec : {M : Type 1} → statement M

@@ -20,7 +20,7 @@ unfolding body_at body_label body_number
 returns c =
     let a = c.args in
     let s = shelf a.t in
-    of_part s a.s.now a.c.at any_stamp_l (clock-reply-kind s) (λ d. refl) (λ d. refl) c.in-2.keys1 (λ d. refl)
+    of_part s a.s.now a.c.at any_stamp_l (clock-reply-kind s) (λ d. refl) (λ d. refl) c.in-2.is (λ d. refl)
     c.any_stamp_field.result c.any_stamp_field.ensures
 
 returns-2 : tie.Need-returns-in-3
@@ -28,7 +28,7 @@ unfolding body_at body_label body_number write_at_def length_at share_at share_o
 returns-2 c =
     let a = c.args in
     let s = shelf a.t in
-    of_part s a.s.now a.c.at (write_l s) (store-kind s) (λ d. refl) (λ d. refl) c.in-3.keys2 (λ d. refl) c.write_field.result
+    of_part s a.s.now a.c.at (write_l s) (store-kind s) (λ d. refl) (λ d. refl) c.in-3.is (λ d. refl) c.write_field.result
     c.write_field.ensures
 
 returns-3 : tie.Need-returns-in-4
@@ -36,7 +36,7 @@ unfolding body_at body_label body_number
 returns-3 c =
     let a = c.args in
     let s = shelf a.t in
-    of_field s a.s.now a.c.at code_l (store-reply-kind s) (λ d. refl) (λ d. refl) c.in-4.keys3 (λ d. refl)
+    of_field s a.s.now a.c.at code_l (store-reply-kind s) (λ d. refl) (λ d. refl) c.in-4.is (λ d. refl)
     c.code_field.result c.code_field.ensures c.unlabelled.ensures
 
 returns-4 : tie.Need-returns-in-8
@@ -44,7 +44,7 @@ unfolding body_at body_label body_number candidate_at
 returns-4 c =
     let a = c.args in
     let s = shelf a.t in
-    of_part s a.s.now a.c.at (any_candidate_l s) (collect-reply-kind s) (λ d. refl) (λ d. refl) c.in-8.keys4 (λ d. refl)
+    of_part s a.s.now a.c.at (any_candidate_l s) (collect-reply-kind s) (λ d. refl) (λ d. refl) c.in-8.is (λ d. refl)
     c.any_candidate_field.result c.any_candidate_field.ensures
 
 returns-5 : tie.Need-returns-in-5
@@ -57,7 +57,7 @@ returns-5 c =
     c.candidate_field.result c.candidate_field.ensures)
     (λ e. of_part s a.s.now a.c.at (candidate_l s) (repair-kind s) (λ d. refl) (λ d. refl) e (λ d. refl)
     c.candidate_field.result c.candidate_field.ensures)
-    c.in-5.keys5
+    c.in-5.is
 
 returns-6 : tie.Need-returns-in-9
 unfolding body_at body_label body_number
@@ -65,7 +65,7 @@ returns-6 c =
     let a = c.args in
     let s = shelf a.t in
     of_field s a.s.now a.c.at (candidates_l s) (filter-kind s) (λ d. refl) (λ d. sym (count_of s (get_or d 0 0) (drop 1 d)))
-    c.in-9.keys6 (λ d. refl)
+    c.in-9.is (λ d. refl)
     c.candidates_field.result c.candidates_field.ensures c.unlabelled-in-9.ensures
 
 returns-7 : tie.Need-returns-in-10
@@ -74,14 +74,14 @@ returns-7 c =
     let a = c.args in
     let s = shelf a.t in
     of_part s a.s.now a.c.at (held_l s) (filter-reply-kind s) (λ d. refl) (λ d. flag_of (eqb (get_or d stamp_size 0) 0) _)
-    c.in-10.keys7 (λ d. refl) c.held_field.result c.held_field.ensures
+    c.in-10.is (λ d. refl) c.held_field.result c.held_field.ensures
 
 returns-8 : tie.Need-returns-in_default
 returns-8 c =
     let at-start = c.before.before in
     let a = at-start.args in
     let p = at-start.requires in
-    let rest = c.in_default.rest in
+    let rest = c.in_default.in_default-own.rest in
     bare_as (shelf a.t) a.s.now a.c.at p.2 a.kind p.0 p.1 rest.0.0.0.0.0.0.1 rest.0.0.0.0.0.1
     rest.0.0.0.0.1 rest.0.0.0.1 rest.0.0.1 rest.0.1 rest.1
 

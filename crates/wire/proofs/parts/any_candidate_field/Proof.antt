@@ -16,26 +16,26 @@ returns c = past-any-candidate (shelf c.args.t) (omega arith)
 returns-2 : tie.Need-returns-in_default
 unfolding any_candidate_f
 returns-2 c =
-    let at-candidate-size = c.before.before.before in
-    ⊎_elim (λ h. stops_short _ _ _ (rw at-candidate-size.enum_told-1.given.1 at
+    let at-candidate-size = c.before.before in
+    ⊎_elim (λ h. stops_short _ _ _ (rw at-candidate-size.in-Broken.is at
     at-candidate-size.candidate_field.ensures) h)
-    (λ h. stops-blank _ _ _ (rw at-candidate-size.enum_told-1.given.1 at
+    (λ h. stops-blank _ _ _ (rw at-candidate-size.in-Broken.is at
     at-candidate-size.candidate_field.ensures) h.0 h.1)
-    (rw c.candidate_size.ensures at (rw c.enum_told-in_default-1.given.1 at c.zero_run.ensures))
+    (rw c.candidate_size.ensures at (rw c.in_default.is at c.zero_run.ensures))
 
 returns-3 : tie.Need-returns-in-Value
 returns-3 c = any-candidate-took (shelf c.args.t)
-    (rw c.label-1.given.1 at c.candidate_field.ensures)
+    (rw c.in-Value.is at c.candidate_field.ensures)
 
 returns-4 : tie.Need-returns-in-Past
 returns-4 c =
-    let at-candidate-size = c.before.before.before.before in
+    let at-candidate-size = c.before.before in
     blank-candidate-took (shelf at-candidate-size.args.t)
-    (rw at-candidate-size.enum_told-1.given.1 at at-candidate-size.candidate_field.ensures)
-    (rw at-candidate-size.candidate_size.ensures at (rw c.c1-1.given.1 at
+    (rw at-candidate-size.in-Broken.is at at-candidate-size.candidate_field.ensures)
+    (rw at-candidate-size.candidate_size.ensures at (rw c.in-Past.is at
     c.zero_run.ensures)).within (rw at-candidate-size.candidate_size.ensures at
-    (rw c.c1-1.given.1 at c.zero_run.ensures)).zero
-    (rw at-candidate-size.candidate_size.ensures at (rw c.c1-1.given.1 at c.zero_run.ensures)).place
+    (rw c.in-Past.is at c.zero_run.ensures)).zero
+    (rw at-candidate-size.candidate_size.ensures at (rw c.in-Past.is at c.zero_run.ensures)).place
 
 pub any_candidate_field_spec : {M : Type 1} → statement M
 any_candidate_field_spec = tie.close (tie.spec returns (λ c κs. search rules) (λ c. search rules) (λ c. search rules) (λ c κs. search rules)

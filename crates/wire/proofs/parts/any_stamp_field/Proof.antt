@@ -15,22 +15,22 @@ returns c = past-any-stamp (omega arith)
 returns-2 : tie.Need-returns-in_default
 unfolding any_stamp_f
 returns-2 c =
-    let at-enum-told = c.before.before.before in
-    ⊎_elim (λ h. stops_short _ _ _ (rw c.enum_told-1.given.1 at
+    let at-enum-told = c.before.before in
+    ⊎_elim (λ h. stops_short _ _ _ (rw c.in-Broken.is at
     at-enum-told.stamp_field.ensures) h) (λ h. stops-blank _ _ _
-    (rw c.enum_told-1.given.1 at at-enum-told.stamp_field.ensures) h.0 h.1)
-    (rw c.enum_told-in_default-1.given.1 at c.zero_run.ensures)
+    (rw c.in-Broken.is at at-enum-told.stamp_field.ensures) h.0 h.1)
+    (rw c.in_default.is at c.zero_run.ensures)
 
 returns-3 : tie.Need-returns-in-Value
-returns-3 c = any-stamp-took (rw c.label-1.given.1 at c.stamp_field.ensures)
+returns-3 c = any-stamp-took (rw c.in-Value.is at c.stamp_field.ensures)
 
 returns-4 : tie.Need-returns-in-Past
 returns-4 c =
-    let at-enum-told = c.before.before.before.before in
-    blank-stamp-took (rw at-enum-told.enum_told-1.given.1 at
-    at-enum-told.stamp_field.ensures) (rw c.c1-1.given.1 at
-    c.zero_run.ensures).within (rw c.c1-1.given.1 at c.zero_run.ensures).zero
-    (rw c.c1-1.given.1 at c.zero_run.ensures).place
+    let at-enum-told = c.before.before in
+    blank-stamp-took (rw at-enum-told.in-Broken.is at
+    at-enum-told.stamp_field.ensures) (rw c.in-Past.is at
+    c.zero_run.ensures).within (rw c.in-Past.is at c.zero_run.ensures).zero
+    (rw c.in-Past.is at c.zero_run.ensures).place
 
 pub any_stamp_field_spec : {M : Type 1} → statement M
 any_stamp_field_spec = tie.close (tie.spec returns (λ c κs. search rules) (λ c. search rules) (λ c. search rules) (λ c κs. search rules)

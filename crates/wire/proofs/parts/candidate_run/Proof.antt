@@ -27,18 +27,18 @@ loop-holds c = (omega arith, run_none (shelf c.args.t) (omega arith))
 
 returns : tie.Need-returns-in_default invariant-loop decreases-loop
 returns c =
-    let at-loop = c.before.before.before.before in
+    let at-loop = c.before.before.before in
     many_broken (candidate_f (shelf at-loop.args.t)) at-loop.loop-i.i
     at-loop.args.n (omega arith) at-loop.loop-i.invariant.1.leaves
-    (rw c.enum_told-1.given.1 at c.candidate_field.ensures)
+    (rw c.in_default.is at c.candidate_field.ensures)
 
 loop-again : tie.Need-loop-i-preserved invariant-loop decreases-loop
 loop-again c =
-    let at-loop = c.before.before.before.before.before in (
+    let at-loop = c.before.before.before in (
       omega arith,
       run_more (shelf at-loop.args.t)
           at-loop.loop-i.i at-loop.loop-i.invariant.1
-          (rw c.next-1.given.1 at c.candidate_field.ensures).took,
+          (rw c.in-Value.is at c.candidate_field.ensures).took,
     )
 
 returns-2 : tie.Need-returns invariant-loop decreases-loop

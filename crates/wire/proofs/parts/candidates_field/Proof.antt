@@ -13,28 +13,28 @@ cast-byte-field c = omega (arith, c.servers.ensures)
 
 returns : tie.Need-returns-in_default
 returns c = list_stops (shelf c.args.t) c.servers.result
-    c.servers.ensures (rw c.enum_told-1.given.1 at c.byte_field.ensures)
+    c.servers.ensures (rw c.in_default.is at c.byte_field.ensures)
 
 candidate-run-requires : tie.Need-candidate_run-requires
-candidate-run-requires c κs = (rw c.n-1.given.1 at c.byte_field.ensures).leaves.within
+candidate-run-requires c κs = (rw c.in-Value.is at c.byte_field.ensures).leaves.within
 
 -- Places far back, each named once: the place, and from where it is seen.
-abbrev start-from-n : tie.In-Value-2 → tie.Start
-start-from-n c = c.before.before.before.before.before
+abbrev start-from-n : tie.In-Value → tie.Start
+start-from-n c = c.before.before.before.before
 
 returns-2 : tie.Need-returns-in_default-candidate_run
 returns-2 c =
-    let at_n = c.before.before.before.before in
+    let at_n = c.before.before in
     list_breaks (shelf (start-from-n at_n).args.t) at_n.servers.result
-    at_n.servers.ensures (rw at_n.n-1.given.1 at
-    at_n.byte_field.ensures) (rw c.enum_told-in_default-candidate_run-1.given.1 at c.candidate_run.ensures)
+    at_n.servers.ensures (rw at_n.in-Value.is at
+    at_n.byte_field.ensures) (rw c.in_default-candidate_run.is at c.candidate_run.ensures)
 
 returns-3 : tie.Need-returns
 returns-3 c =
-    let at_n = c.before.before.before.before.before in
+    let at_n = c.before.before in
     list-took (shelf (start-from-n at_n).args.t) at_n.servers.result at_n.servers.ensures
-    (rw at_n.n-1.given.1 at at_n.byte_field.ensures)
-    (rw c.c2-1.given.1 at c.candidate_run.ensures)
+    (rw at_n.in-Value.is at at_n.byte_field.ensures)
+    (rw c.in-Past.is at c.candidate_run.ensures)
 
 pub candidates_field_spec : {M : Type 1} → statement M
 candidates_field_spec = tie.close (tie.spec (λ c κs. search rules) cast-byte-field (λ c κs. search rules) (λ c. search rules) (λ c. search rules)

@@ -15,22 +15,22 @@ use Rattle.wire.proofs.parts.share_field.Tie as tie
 
 returns : tie.Need-returns-in_default
 unfolding share_f
-returns c = stops-via _ _ _ (stops_first _ _ (rw c.enum_told-1.given.1 at c.number2_field.ensures))
+returns c = stops-via _ _ _ (stops_first _ _ (rw c.in_default.is at c.number2_field.ensures))
 
 -- Places far back, each named once: the place, and from where it is seen.
-abbrev start-from-n : tie.In-Value-2 → tie.Start
-start-from-n c = c.before.before.before.before
+abbrev start-from-n : tie.In-Value → tie.Start
+start-from-n c = c.before.before.before
 
-abbrev n-from-share-size : tie.After-share_size-size → tie.In-Value-2
-n-from-share-size c = c.before.before
+abbrev n-from-share-size : tie.After-share_size-size → tie.In-Value
+n-from-share-size c = c.before
 
-length-took : (c : tie.In-Value-2)
-    → TookAt (number2_l 0 top_length) (start-from-n c).args.s.now (start-from-n c).args.c.at c.n-1.given.0.0 c.n-1.given.0.1.0.at
-length-took c = rw c.n-1.given.1 at c.number2_field.ensures
+length-took : (c : tie.In-Value)
+    → TookAt (number2_l 0 top_length) (start-from-n c).args.s.now (start-from-n c).args.c.at c.in-Value.n c.in-Value.c1.at
+length-took c = rw c.in-Value.is at c.number2_field.ensures
 
 -- what follows the length
 size_is : (c : tie.After-share_size-size)
-    → c.share_size-size.result - 2 ≡ share_size_def (shelf (start-from-n (n-from-share-size c)).args.t) (n-from-share-size c).n-1.given.0.0 - 2
+    → c.share_size-size.result - 2 ≡ share_size_def (shelf (start-from-n (n-from-share-size c)).args.t) (n-from-share-size c).in-Value.n - 2
 size_is c = ap (λ (k : ℕ). k - 2) c.share_size-size.ensures
 
 sub-size : tie.Need-overflow_sub-size
@@ -42,15 +42,15 @@ run-field-requires c κs = (length-took (n-from-share-size c)).leaves.within
 
 returns-2 : tie.Need-returns-in_default-run_field
 returns-2 c =
-    let at_size = c.before.before.before in
+    let at_size = c.before.before in
     share_short (shelf (start-from-n (n-from-share-size at_size)).args.t) (length-took (n-from-share-size at_size)) (size_is at_size)
-    (rw c.enum_told-in_default-run_field-1.given.1 at c.run_field.ensures)
+    (rw c.in_default-run_field.is at c.run_field.ensures)
 
 returns-3 : tie.Need-returns
 returns-3 c =
-    let at_size = c.before.before.before.before in
+    let at_size = c.before.before in
     share-joined (shelf (start-from-n (n-from-share-size at_size)).args.t) (length-took (n-from-share-size at_size)) (size_is at_size)
-    (rw c.c2-1.given.1 at c.run_field.ensures)
+    (rw c.in-Past.is at c.run_field.ensures)
 
 pub share_field_spec : {M : Type 1} → statement M
 share_field_spec = tie.close (tie.spec (λ c. search rules) (λ c κs. search rules) (λ c. search rules) (λ c. search rules) returns

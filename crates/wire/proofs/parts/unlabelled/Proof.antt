@@ -5,7 +5,7 @@ use Rattle.wire.proofs.parts.unlabelled.Statement.{statement}
 use Rattle.wire.proofs.parts.unlabelled.Tie as tie
 
 returns : tie.Need-returns-in-Value
-returns c = rw c.field-1.given.1
+returns c = rw c.in-Value.is
 
 pub unlabelled_spec : {M : Type 1} → statement M
 unlabelled_spec = tie.close (tie.spec (λ c. search rules) (λ c. search rules) returns (λ c. search rules))

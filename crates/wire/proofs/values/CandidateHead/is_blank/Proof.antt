@@ -20,7 +20,7 @@ module _ (h : CandidateHead) (x : Bool) (e : x ≡ same_stamp h.stamp blank_stam
 
 returns : tie.Need-returns-then-not-is_blank
 returns c = other-stamp c.args.self c.is_blank.result c.is_blank.ensures
-    (not-true c.is_blank.result c.if-not-is_blank.true)
+    (c.if-not-is_blank.true)
 
 returns-2 : tie.Need-returns
 returns-2 c =
@@ -29,7 +29,7 @@ returns-2 c =
     let b = at-else1.is_blank in
     c.same.ensures
     ∙ ap (λ (h : CandidateHead). same_list at-else1.args.self.nonce h.nonce) at-blank.blank-blank.ensures
-    ∙ by-nonce at-else1.args.self b.result b.ensures (not-false b.result at-else1.if-not-is_blank.false)
+    ∙ by-nonce at-else1.args.self b.result b.ensures (at-else1.if-not-is_blank.false)
 
 pub is_blank_spec : {M : Type 1} → statement M
 is_blank_spec = tie.close (tie.spec (λ c κs. search rules) returns (λ c κs. search rules) (λ c. search rules) (λ c. search rules)
