@@ -69,7 +69,7 @@ returns-4 c =
 
 returns-5 : tie.Need-returns-in_default-kind
 returns-5 c =
-    let p = c.before in
+    let p = c.before.before in
     fragment_read (s p) (h p) (read p).packet
     (sym (fragment_none (shelf (h p).t) (drop head_size (s p)) (h p).kind c.in_default-kind.in_default-kind-own.rest.0.1 c.in_default-kind.in_default-kind-own.rest.1))
 
