@@ -50,7 +50,7 @@ add-n c =
     let at-else1 = else1-from-entry c in
     let a = at-else1.args in
     let p = enters (candidates_in (shelf a.t) a.kept.now) in
-    let u = known at-else1.is_usable.ensures at-else1.if-not-is_usable.left in
+    let u = known at-else1.is_usable.ensures at-else1.if-not-is_usable.false in
     omega (
       arith,
       c.loop-i.invariant.1,
@@ -66,7 +66,7 @@ add-n c =
 add-i : tie.Need-overflow_add-i invariant-loop decreases-loop
 add-i c =
     let at-else1 = else1-from-entry c in
-    let u = known at-else1.is_usable.ensures at-else1.if-not-is_usable.left in omega
+    let u = known at-else1.is_usable.ensures at-else1.if-not-is_usable.false in omega
     (arith, c.servers-s.ensures.1, u.high)
 
 loop-again : tie.Need-loop-i-preserved invariant-loop decreases-loop

@@ -31,7 +31,7 @@ fragment-size-requires c κs =
     let at-start = c.before.before.before.before.before in
     let a = at-start.args in
     let p = at-start.requires in
-    (p.0.low, p.0.high, omega (arith, p.2.top, size a.kept.now a.b c.before.type_size.result c.before.type_size.ensures))
+    (p.0.low, p.0.high, omega (arith, p.2.top, size a.kept.now a.b c.before.size_of-n.result c.before.size_of-n.ensures))
 
 -- the fragments' room, by what was read
 room : (t n k f : ℕ) → t ≤ top_faults → n ≤ top_length → k ≡ (shelf t).threshold → f ≡ fragment_size_def (shelf t).threshold n
@@ -49,8 +49,8 @@ mul-end c =
     let p = at-start.requires in
     omega (
       arith,
-      room a.t c.before.before.type_size.result c.threshold-k.result c.fragment_size.result p.0.high
-          (omega (arith, p.2.top, size a.kept.now a.b c.before.before.type_size.result c.before.before.type_size.ensures))
+      room a.t c.before.before.size_of-n.result c.threshold-k.result c.fragment_size.result p.0.high
+          (omega (arith, p.2.top, size a.kept.now a.b c.before.before.size_of-n.result c.before.before.size_of-n.ensures))
           c.threshold-k.ensures.0 c.fragment_size.ensures,
     )
 
@@ -59,7 +59,7 @@ fragments-of-requires c κs =
     let at-start = start-from-fragment-size c in
     let a = at-start.args in
     let p = at-start.requires in
-    (p.0, omega (arith, p.2.top, size a.kept.now a.b c.before.before.type_size.result c.before.before.type_size.ensures), p.3)
+    (p.0, omega (arith, p.2.top, size a.kept.now a.b c.before.before.size_of-n.result c.before.before.size_of-n.ensures), p.3)
 
 abbrev start-from-fragments-of : tie.After-fragments_of-fragments → tie.Start
 start-from-fragments-of c = c.before.before.before.before.before.before.before
@@ -88,7 +88,7 @@ part-restore-end-2 c =
       products at-fragments-of.threshold-k.result
           (shelf at-start.args.t).threshold at-fragments-of.fragment_size.result (fragment_size_def (shelf
           at-start.args.t).threshold
-          at-fragments-of.before.before.before.type_size.result) at-fragments-of.threshold-k.ensures.0
+          at-fragments-of.before.before.before.size_of-n.result) at-fragments-of.threshold-k.ensures.0
           at-fragments-of.fragment_size.ensures,
     )
 
@@ -110,17 +110,17 @@ returns c =
     let at-start = start-from-fragments-of at-fragments-of in
     let a = at-start.args in
     let p = at-start.requires in
-    let n = size a.kept.now a.b at-fragments-of.before.before.before.type_size.result
-    at-fragments-of.before.before.before.type_size.ensures in
+    let n = size a.kept.now a.b at-fragments-of.before.before.before.size_of-n.result
+    at-fragments-of.before.before.before.size_of-n.ensures in
     let k = at-fragments-of.threshold-k.ensures.0 in
     let f = at-fragments-of.fragment_size.ensures in
-    rebuilt a.t a.kept.now a.servers at-fragments-of.before.before.before.type_size.result
+    rebuilt a.t a.kept.now a.servers at-fragments-of.before.before.before.size_of-n.result
     p.0 (omega (arith, p.2.top, n)) p.3 a.b at-fragments-of.fragments_of-fragments.result
     a.out.now at_restore.restore-r.new.1.1.1.1.0
     at_restore.restore-r.result n at-start.good.1.1.1.0.1.0.1 at-fragments-of.fragments_of-fragments.ensures p.4 (at_restore.restore-r.ensures
-    ∙ lent a.t at-fragments-of.before.before.before.type_size.result
+    ∙ lent a.t at-fragments-of.before.before.before.size_of-n.result
     at-fragments-of.threshold-k.result (shelf a.t).threshold at-fragments-of.fragment_size.result
-    (fragment_size_def (shelf a.t).threshold at-fragments-of.before.before.before.type_size.result)
+    (fragment_size_def (shelf a.t).threshold at-fragments-of.before.before.before.size_of-n.result)
     a.servers at-fragments-of.fragments_of-fragments.result a.out.now k f)
 
 pub rebuild_spec : {M : Type 1} → statement M

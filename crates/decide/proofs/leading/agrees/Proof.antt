@@ -89,7 +89,7 @@ returns-4 c =
     let k : a.b < most_servers = omega (arith, p.2, few p.0) in
     rw (agrees_unlike who.t who.marks a.kept.now q.slot a.d.now p.4 a.b k p.5 a.j l
     (is-marked who.marks a.j at-names-at.if-replied-j-eq0.false)
-    (sym c.before.Alike-at.ensures ∙ c.if-not-alike_at.true))
+    (sym c.before.alike_at.ensures ∙ c.if-not-alike_at.true))
 
 intact-at-requires : tie.Need-intact_at-requires
 unfolding slot_held
@@ -125,7 +125,7 @@ last c =
     let k : a.b < most_servers = omega (arith, p.2, few p.0) in
     agrees_last who.t who.marks a.kept.now q.slot a.d.now p.4 a.b k p.5 a.j l
     (is-marked who.marks a.j at-names-at.if-replied-j-eq0.left) (sym at-names-at.names_at.ensures ∙ c.if-not-names_at.false)
-    (sym c.before.before.Alike-at.ensures ∙ c.if-not-alike_at.false)
+    (sym c.before.before.alike_at.ensures ∙ c.if-not-alike_at.false)
     ∙ sym c.intact_at.ensures
 
 returns-5 : tie.Need-returns-then-intact_at

@@ -59,8 +59,8 @@ returns c =
     let who = q.replied in
     let j = at-loop.loop-b.b in
     let v = at-loop.loop-b.invariant in
-    let g = c.before.before.Group-of.ensures in
-    first-leads who.t who.marks a.kept.now q.slot at-loop.loop-b.b c.before.before.Group-of.result
+    let g = c.before.before.group_of-g.ensures in
+    first-leads who.t who.marks a.kept.now q.slot at-loop.loop-b.b c.before.before.group_of-g.result
     (omega (arith, at-loop.servers-s.ensures.0)) v.1 g c.if-g-ne0.true
 
 abbrev at-loop-from-else1 : tie.Else-g-ne0 invariant-loop decreases-loop → tie.At-loop-b invariant-loop decreases-loop
@@ -81,7 +81,7 @@ loop-again c =
     let a = (start-from-at-loop at-loop).args in
     let q = a.sought in
     let who = q.replied in
-    let g = c.before.before.Group-of.ensures in (
+    let g = c.before.before.group_of-g.ensures in (
       omega arith,
       leader_more who.t who.marks a.kept.now q.slot at-loop.loop-b.b at-loop.loop-b.invariant.1 ∙ sym g.server ∙ c.if-g-ne0.false,
     )

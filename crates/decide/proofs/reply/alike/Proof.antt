@@ -21,20 +21,20 @@ returns c =
     let a = at-size-of.args in
     let p = at-size-of.requires in
     sym (alike-not (shelf a.t) a.a.now a.b.now p.4 p.5 (λ e. c.if-size_of-n.true
-    (c.size_of-n.ensures ∙ e ∙ sym c.before.before.type_size.ensures)))
+    (c.size_of-n.ensures ∙ e ∙ sym c.before.before.size_of-n.ensures)))
 
 digests-at-requires : tie.Need-digests_at-at-requires
 digests-at-requires c κs = let p = c.requires in (
   p.0,
   p.1,
   omega
-      (arith, c.before.before.type_size.ensures, p.4.top),
+      (arith, c.before.before.size_of-n.ensures, p.4.top),
 )
 
 tags-place-requires : tie.Need-tags_place-requires
 tags-place-requires c κs =
     let at-size-of = c.before.before.before in
-    let p = at-size-of.requires in (p.0, p.1, omega (arith, at-size-of.type_size.ensures, p.4.top))
+    let p = at-size-of.requires in (p.0, p.1, omega (arith, at-size-of.size_of-n.ensures, p.4.top))
 
 -- Places far back, each named once: the place, and from where it is seen.
 abbrev size-of-from-tags-place : tie.After-tags_place → tie.After-size_of-n
@@ -62,7 +62,7 @@ returns-2 c =
     let p = at-size-of.requires in
     let s = shelf a.t in
     let r = at-tags-place.digests_at-at.ensures in
-    let z = ap (fragment_size_def (shelf a.t).threshold) at-size-of.type_size.ensures in
+    let z = ap (fragment_size_def (shelf a.t).threshold) at-size-of.size_of-n.ensures in
     let at : ℕ = at-tags-place.digests_at-at.result in
     let m : ℕ = at-tags-place.tags_place.result in
     let o : ℕ = c.servers.result in
@@ -73,7 +73,7 @@ returns-2 c =
     ∙ cuts a.a.now a.b.now at (digests_in_def (shelf a.t) a.a.now) (m + tag_size * o - at)
     (digests_size_def (shelf a.t) + digest_size + tags_size_def (shelf a.t)) e l
     ∙ sym (alike_in (shelf a.t) a.a.now a.b.now p.4 p.5
-    (sym at-tags-place.size_of-n.ensures ∙ at-tags-place.if-size_of-n.false ∙ at-size-of.type_size.ensures)
+    (sym at-tags-place.size_of-n.ensures ∙ at-tags-place.if-size_of-n.false ∙ at-size-of.size_of-n.ensures)
     (omega (arith, r.room, e, p.2)) (omega (arith, r.room, e, p.3)))
   where
     cuts : (a b : List ℕ) (x y n m : ℕ) → x ≡ y → n ≡ m → same_list (take n (drop x a)) (take n (drop x b)) ≡ same_list (bytes_at a y m) (bytes_at b y m)

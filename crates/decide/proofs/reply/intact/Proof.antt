@@ -17,7 +17,7 @@ use Rattle.decide.proofs.reply.intact.Statement.{statement}
 use Rattle.decide.proofs.reply.intact.Tie as tie
 
 digests-at-requires : tie.Need-digests_at-e-requires
-digests-at-requires c κs = let p = c.requires in (p.0, p.1, omega (arith, c.type_size.ensures, p.3.top))
+digests-at-requires c κs = let p = c.requires in (p.0, p.1, omega (arith, c.size_of.ensures, p.3.top))
 
 -- the digest of server j + 1's fragment ends within the reply
 fine : (c : tie.After-digests_at-e)
@@ -37,7 +37,7 @@ returns c =
     let a = at-start.args in
     let p = at-start.requires in
     let F : ℕ = fragment_size_def (shelf a.t).threshold (size_in_def a.reply.now) in
-    let z = ap (fragment_size_def (shelf a.t).threshold) at-share-fragment.before.before.before.type_size.ensures in
+    let z = ap (fragment_size_def (shelf a.t).threshold) at-share-fragment.before.before.before.size_of.ensures in
     let e : at-share-fragment.digests_at-e.result ≡ digests_in_def (shelf a.t) a.reply.now = omega
     (arith, at-share-fragment.digests_at-e.ensures.place, z) in
     let handed = at-share-fragment.share_fragment.ensures

@@ -34,7 +34,7 @@ returns-2 : tie.Need-returns-then-n-gt-TOP_LENGTH
 returns-2 c =
     let a = (shared-slice-known2-from-size-of c.before).args in
     sym (names-long (shelf a.t) a.reply.now a.candidate.now a.d.now (ne_eqb (get_or a.reply.now stamp_size 0) 0
-    c.if-reply-eq0.false) (omega (arith, c.before.type_size.ensures)))
+    c.if-reply-eq0.false) (omega (arith, c.before.size_of-n.ensures)))
 
 returns-3 : tie.Need-returns-then-not-same
 returns-3 c =
@@ -79,7 +79,7 @@ returns-4 c =
     let f : Full a.reply.now =
     record {
       flag = ne_eqb (get_or a.reply.now stamp_size 0) 0 at-size-of.if-reply-eq0.left;
-      top = omega (arith, at-size-of.type_size.ensures);
+      top = omega (arith, at-size-of.size_of-n.ensures);
     } in
     let q : same_stamp (stamp_at_def a.reply.now) (stamp_at_def a.candidate.now) ≡ true =
     sym (same_heads a.reply.now a.candidate.now (λ k. (at-shared-slice-known2.shared_slice_known-1.given k).fits)
@@ -91,7 +91,7 @@ returns-4 c =
       arith,
       c.digests_at.ensures.place,
       c.servers.ensures.0,
-      ap (fragment_size_def (shelf a.t).threshold) at-size-of.type_size.ensures,
+      ap (fragment_size_def (shelf a.t).threshold) at-size-of.size_of-n.ensures,
     ) in
     c.same-2.ensures ∙ ap (λ (z : List ℕ). same_list z a.d.now) (part_of a.reply.now at digest_size ∙ ap
     (λ (k : ℕ). bytes_at a.reply.now k digest_size) e)

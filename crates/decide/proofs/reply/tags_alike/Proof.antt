@@ -36,7 +36,7 @@ unfolding same_tags_at
 returns c =
     let a = c.args in
     rw (lt-leb (share_of a.t a.kept.now (suc a.j)).size top_length (omega
-    (arith, c.if-n-gt-TOP_LENGTH.true, size a.t a.kept.now a.j c.before.type_size.result c.before.type_size.ensures)))
+    (arith, c.if-n-gt-TOP_LENGTH.true, size a.t a.kept.now a.j c.before.size_of-n.result c.before.size_of-n.ensures)))
 
 servers-requires : tie.Need-servers-s-requires
 servers-requires c κs = c.requires.0.high
@@ -68,15 +68,15 @@ returns-2 c =
     let at-start = start-from-servers at-servers in
     let a = at-start.args in
     let p = at-start.requires in
-    let z = size a.t a.kept.now a.j at-servers.before.before.type_size.result
-    at-servers.before.before.type_size.ensures in
+    let z = size a.t a.kept.now a.j at-servers.before.before.size_of-n.result
+    at-servers.before.before.size_of-n.ensures in
     let at : ℕ = replies_place + reply_slot * a.j + c.tags_place.result in
     let w : ℕ = tag_size * at-servers.servers-s.result in
     let e : w ≡ tags_size_def (shelf a.t) = omega (arith, at-servers.servers-s.ensures.0) in
     rw (le-leb (share_of a.t a.kept.now (suc a.j)).size top_length (omega (arith, at-servers.if-n-gt-TOP_LENGTH.false, z)))
     (c.same.ensures ∙ both a.kept.now at (candidates_place + candidate_slot * a.i + (stamp_size + nonce_size)) w (tags_size_def (shelf a.t)) e
     ∙ ap (λ (x : List ℕ). same_list x (bytes_at a.kept.now (candidates_place + candidate_slot * a.i + (stamp_size + nonce_size))
-    (tags_size_def (shelf a.t)))) (sym (reply-tags a.t a.kept.now a.j at-servers.before.before.type_size.result at z
+    (tags_size_def (shelf a.t)))) (sym (reply-tags a.t a.kept.now a.j at-servers.before.before.size_of-n.result at z
     (omega (arith, c.tags_place.ensures.place, at-servers.servers-s.ensures.0))
     (omega (arith, c.tags_place.ensures.room, c.tags_place.ensures.place))))
     ∙ ap (same_list (share_of a.t a.kept.now (suc a.j)).tags) (sym (candidate-tags (shelf a.t) a.kept.now a.i p.1

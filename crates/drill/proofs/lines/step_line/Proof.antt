@@ -14,20 +14,20 @@ returns c =
 returns-2 : tie.Need-returns-in_default
 returns-2 c =
     let at-line-at = c.before in
-    let e = line-told at-line-at.line_at_lem.ensures c.in_default.is in
+    let e = line-told at-line-at.line_at.ensures c.in_default.is in
     rw (no_step_text _ at-line-at.args.n at-line-at.if-n-ge-TOP_NUMBER.false e)
 
 returns-3 : tie.Need-returns-then-is_step
 returns-3 c =
     let at-line-at = c.before.before.before in
-    let e = line-told at-line-at.line_at_lem.ensures c.in-Line.is in
+    let e = line-told at-line-at.line_at.ensures c.in-Line.is in
     let a = at-line-at.args in
     rw (is_step_line _ a.n at-line-at.if-n-ge-TOP_NUMBER.false _ e (sym c.is_step.ensures ∙ c.if-is_step.true))
 
 returns-4 : tie.Need-returns
 returns-4 c =
     let at-line-at = c.before.before.before in
-    let e = line-told at-line-at.line_at_lem.ensures c.in-Line.is in
+    let e = line-told at-line-at.line_at.ensures c.in-Line.is in
     let a = at-line-at.args in
     rw (no_step_line _ a.n at-line-at.if-n-ge-TOP_NUMBER.false _ e (sym c.is_step.ensures ∙ c.if-is_step.false))
 

@@ -29,7 +29,7 @@ cast-pack c =
     let a = (start-from-rows-of at-rows-of).args in
     omega (
       arith,
-      weighed-count a.t a.length a.rows.now a.fragments.now a.out.now at-rows-of.rows_of_lem.result past.restore_weighed-outcome.result _
+      weighed-count a.t a.length a.rows.now a.fragments.now a.out.now at-rows-of.rows_of.result past.restore_weighed-outcome.result _
           past.restore_weighed-outcome.ensures,
     )
 
@@ -41,7 +41,7 @@ returns-2 c =
     weighed-answer a.t a.length a.rows.now a.fragments.now a.out.now past.restore_weighed-outcome.result _ _
     (omega (arith, at-rows-of.if-rows-lt-ROWS.false))
     (past.restore_weighed-outcome.ensures
-    ∙ ap (λ (r : List ℕ). weighed_step a.t a.length r a.fragments.now a.out.now) at-rows-of.rows_of_lem.ensures)
+    ∙ ap (λ (r : List ℕ). weighed_step a.t a.length r a.fragments.now a.out.now) at-rows-of.rows_of.ensures)
     c.pack-2.ensures
 
 pub cendrulas_restore_weighed_spec : {M : Type 1} → statement M
