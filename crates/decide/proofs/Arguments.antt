@@ -22,14 +22,14 @@ few u = omega (arith, u.high)
 
 -- what the code's test of the arguments leaves
 module _ {t : ℕ} {kept : List ℕ} {r : Bool} (u : UsableAs t kept r) where
-  pub unusable : not r ≡ true → usable t kept ≡ false
-  unusable e = sym u.same ∙ not-true r e
+  pub unusable : r ≡ false → usable t kept ≡ false
+  unusable e = sym u.same ∙ e
 
-  pub is-usable : not r ≡ false → usable t kept ≡ true
-  is-usable e = sym u.same ∙ not-false r e
+  pub is-usable : r ≡ true → usable t kept ≡ true
+  is-usable e = sym u.same ∙ e
 
-  pub known : not r ≡ false → Usable t kept
-  known e = u.told (not-false r e)
+  pub known : r ≡ true → Usable t kept
+  known e = u.told e
 
 -- what is known of arguments that are not refused
 pub allowed : (t : ℕ) (kept : List ℕ) (room : ℕ) → decide_refusal_def t (length kept) room ≡ 0 → Usable t kept × (content_room ≤ room)

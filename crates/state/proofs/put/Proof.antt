@@ -24,7 +24,7 @@ returns-2 c =
     let at-start = at-numbers-of.before.before.before in
     let a = at-start.args in
     state_put a.bytes.now a.call (wide at-start) (omega arith)
-    (rw (sym at-numbers-of.numbers_of-first.ensures) at-put.put-n.ensures) c.put-n.ensures
+    (rw (sym at-numbers-of.numbers_of-first.ensures) at-put.put-n.ensures) c.put.ensures
 
 pub put_spec : {M : Type 1} → statement M
 put_spec = tie.close (tie.spec returns (λ c κs. search rules) (λ c. search rules) (λ c κs. search rules) (λ c. search rules) (λ c κs. search rules)

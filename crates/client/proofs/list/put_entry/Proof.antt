@@ -39,7 +39,7 @@ returns-2 c =
     let x : List ℕ = bytes_at D 0 (candidate_size_def (shelf a.t)) in
     let l : length x ≤ candidate_slot = omega (arith, part-most D 0 (candidate_size_def (shelf a.t)), p.0) in
     let q = rw (
-      c.part-slot.ensures,
+      c.part.ensures,
       at-candidate-size.part-slot.ensures,
       at-candidate-size.candidate_size-size.ensures,
     ) at c.put.ensures in

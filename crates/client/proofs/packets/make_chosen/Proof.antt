@@ -34,7 +34,7 @@ returns c =
     (candidate_back (shelf a.t) D y (omega (arith, l))) in
     let m = part-most D 0 (candidate_size_def (shelf a.t)) in
     c.make_packet.ensures ∙ rw (
-      at-part2.part-chosen.ensures,
+      at-part2.part.ensures,
       at-part2.part-chosen.ensures,
       at-part2.candidate_size.ensures,
     ) (packet-fits a.head (bytes_at D 0 (candidate_size_def (shelf a.t))) []

@@ -56,7 +56,7 @@ returns c =
     let n = part_short E (share_size_def (shelf a.t) (length_at E)) in
     c.make_packet.ensures ∙ rw (
       at-part4.part-stamp.ensures,
-      at-part4.part-chosen.ensures,
+      at-part4.part.ensures,
       at-part4.share_size-size.ensures,
       at-part4.number2.ensures,
       at-part2.part-slot.ensures,

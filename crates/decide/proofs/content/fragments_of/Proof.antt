@@ -49,6 +49,18 @@ fine c =
     turn a.t a.kept.now a.servers a.n p.0 p.1 p.2 c.fragment_size-f.result c.loop-p.p
     c.fragment_size-f.ensures (omega (arith, c.threshold-k.ensures.0))
 
+-- the same before the server is read
+fine-unread : (c : tie.In-loop-p-unread-2 invariant-loop decreases-loop)
+    → Turn (start-from-at-loop c.before).args.kept.now (get_or (start-from-at-loop c.before).args.servers c.loop-p.p 0)
+    c.fragment_size-f.result c.loop-p.p
+fine-unread c =
+    let at-loop = c.before in
+    let at-start = start-from-at-loop at-loop in
+    let a = at-start.args in
+    let p = at-start.requires in
+    turn a.t a.kept.now a.servers a.n p.0 p.1 p.2 c.fragment_size-f.result c.loop-p.p
+    c.fragment_size-f.ensures (omega (arith, c.threshold-k.ensures.0))
+
 copy-requires : tie.Need-copy-requires invariant-loop decreases-loop
 copy-requires c κs =
     let at-loop = c.before.before.before in
@@ -76,7 +88,7 @@ loop-again c =
     let at : ℕ = replies_place + reply_slot * (get_or a.servers at-loop.loop-p.p 0 - 1) + (stamp_size + 3) in
     let w =
     fragments_more a.t a.kept.now a.servers a.n p.0 p.1 p.2 at-loop.loop-p.out
-    c.copy.new.0 at-loop.fragment_size-f.result at-loop.loop-p.p at
+    c.copy.new.out at-loop.fragment_size-f.result at-loop.loop-p.p at
     at-loop.fragment_size-f.ensures l refl v.1 v.2 c.copy.ensures in
     (omega arith, w.0, w.1)
 
@@ -96,7 +108,7 @@ returns c =
 
 pub fragments_of_spec : {M : Type 1} → statement M
 fragments_of_spec = tie.close (tie.spec invariant-loop decreases-loop fragment-size-requires threshold-requires loop-holds (λ c. omega (arith, array-read-at c))
-    array-read-at (λ c. omega (arith, fine c)) (λ c. omega (arith, fine c)) (λ c. omega (arith, fine c)) (λ c. omega (arith, fine c))
+    array-read-at (λ c. omega (arith, fine-unread c)) (λ c. omega (arith, fine-unread c)) (λ c. omega (arith, fine-unread c)) (λ c. omega (arith, fine-unread c))
     (λ c. search rules) (λ c. omega (arith, fine c.before)) (λ c. omega (arith, fine c.before)) (λ c. omega (arith, fine c.before))
     (λ c. omega (arith, fine c.before)) (λ c. omega (arith, fine c.before)) copy-requires
     (λ c. omega (arith, fine c.before.before.before.before)) (λ c. omega arith) loop-again returns)

@@ -72,7 +72,7 @@ part-restore-end c =
       arith,
       c.threshold-k.ensures.1,
       at-start.requires.0.high,
-      at-start.good.1.1.1.0.1.0.1,
+      at-start.well_formed.1.1.1.0.1.0.1,
     )
 
 products : (k l f g : ℕ) → k ≡ l → f ≡ g → k * f ≡ l * g
@@ -116,8 +116,8 @@ returns c =
     let f = at-fragments-of.fragment_size.ensures in
     rebuilt a.t a.kept.now a.servers at-fragments-of.before.before.before.size_of-n.result
     p.0 (omega (arith, p.2.top, n)) p.3 a.b at-fragments-of.fragments_of-fragments.result
-    a.out.now at_restore.restore-r.new.1.1.1.1.0
-    at_restore.restore-r.result n at-start.good.1.1.1.0.1.0.1 at-fragments-of.fragments_of-fragments.ensures p.4 (at_restore.restore-r.ensures
+    a.out.now at_restore.restore-r.new.out
+    at_restore.restore-r.result n at-start.well_formed.1.1.1.0.1.0.1 at-fragments-of.fragments_of-fragments.ensures p.4 (at_restore.restore-r.ensures
     ∙ lent a.t at-fragments-of.before.before.before.size_of-n.result
     at-fragments-of.threshold-k.result (shelf a.t).threshold at-fragments-of.fragment_size.result
     (fragment_size_def (shelf a.t).threshold at-fragments-of.before.before.before.size_of-n.result)

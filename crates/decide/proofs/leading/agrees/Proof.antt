@@ -124,7 +124,7 @@ last c =
     let l : a.j < most_servers = omega (arith, p.3, few p.0) in
     let k : a.b < most_servers = omega (arith, p.2, few p.0) in
     agrees_last who.t who.marks a.kept.now q.slot a.d.now p.4 a.b k p.5 a.j l
-    (is-marked who.marks a.j at-names-at.if-replied-j-eq0.left) (sym at-names-at.names_at.ensures ∙ c.if-not-names_at.false)
+    (is-marked who.marks a.j at-names-at.if-replied-j-eq0.false) (sym at-names-at.names_at.ensures ∙ c.if-not-names_at.false)
     (sym c.before.before.alike_at.ensures ∙ c.if-not-alike_at.false)
     ∙ sym c.intact_at.ensures
 

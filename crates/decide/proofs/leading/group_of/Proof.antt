@@ -24,7 +24,7 @@ returns c =
     let q = a.sought in
     let who = q.replied in
     nobody-leads who.t who.marks a.kept.now q.slot a.b _ c.no_group.ensures
-    (leads_unfit who.t who.marks a.kept.now q.slot a.b (sym c.before.before.fits2.ensures ∙ c.if-not-fits.true))
+    (leads_unfit who.t who.marks a.kept.now q.slot a.b (sym c.before.before.fits.ensures ∙ c.if-not-fits.true))
 
 members-of-requires : tie.Need-members_of-m-requires
 members-of-requires c κs = let p = c.requires in (
@@ -32,7 +32,7 @@ members-of-requires c κs = let p = c.requires in (
   p.1,
   p.2,
   p.3,
-  sym c.before.fits2.ensures ∙ c.if-not-fits.false,
+  sym c.before.fits.ensures ∙ c.if-not-fits.false,
 )
 
 -- Places far back, each named once: the place, and from where it is seen.
@@ -49,7 +49,7 @@ returns-2 c =
     let q = a.sought in
     let who = q.replied in
     nobody-leads who.t who.marks a.kept.now q.slot a.b _ c.no_group-then-m-threshold.ensures
-    (leads-few who.t who.marks a.kept.now q.slot a.b (sym at-members-of.before.before.fits2.ensures ∙ at-members-of.if-not-fits.false) (omega (
+    (leads-few who.t who.marks a.kept.now q.slot a.b (sym at-members-of.before.before.fits.ensures ∙ at-members-of.if-not-fits.false) (omega (
       arith,
       c.if-m-threshold.true,
       at-members-of.members_of-m.ensures.count,
@@ -72,7 +72,7 @@ returns-3 c =
     let k : (shelf who.t).threshold ≡ at-members-of.members_of-m.result.count = omega
     (arith, l, m.count, members-most who.t who.marks a.kept.now q.slot a.b) in
     slot-leads who.t who.marks a.kept.now q.slot a.b _ (add-one a.b)
-    (leads_enough who.t who.marks a.kept.now q.slot a.b (sym at-members-of.before.before.fits2.ensures ∙ at-members-of.if-not-fits.false) l)
+    (leads_enough who.t who.marks a.kept.now q.slot a.b (sym at-members-of.before.before.fits.ensures ∙ at-members-of.if-not-fits.false) l)
     (ap (λ (x : ℕ). take x at-members-of.members_of-m.result.servers) k ∙ m.these)
 
 pub group_of_spec : {M : Type 1} → statement M

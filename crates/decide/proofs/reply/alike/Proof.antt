@@ -21,7 +21,7 @@ returns c =
     let a = at-size-of.args in
     let p = at-size-of.requires in
     sym (alike-not (shelf a.t) a.a.now a.b.now p.4 p.5 (λ e. c.if-size_of-n.true
-    (c.size_of-n.ensures ∙ e ∙ sym c.before.before.size_of-n.ensures)))
+    (c.size_of.ensures ∙ e ∙ sym c.before.before.size_of-n.ensures)))
 
 digests-at-requires : tie.Need-digests_at-at-requires
 digests-at-requires c κs = let p = c.requires in (
@@ -73,7 +73,7 @@ returns-2 c =
     ∙ cuts a.a.now a.b.now at (digests_in_def (shelf a.t) a.a.now) (m + tag_size * o - at)
     (digests_size_def (shelf a.t) + digest_size + tags_size_def (shelf a.t)) e l
     ∙ sym (alike_in (shelf a.t) a.a.now a.b.now p.4 p.5
-    (sym at-tags-place.size_of-n.ensures ∙ at-tags-place.if-size_of-n.false ∙ at-size-of.size_of-n.ensures)
+    (sym at-tags-place.size_of.ensures ∙ at-tags-place.if-size_of-n.false ∙ at-size-of.size_of-n.ensures)
     (omega (arith, r.room, e, p.2)) (omega (arith, r.room, e, p.3)))
   where
     cuts : (a b : List ℕ) (x y n m : ℕ) → x ≡ y → n ≡ m → same_list (take n (drop x a)) (take n (drop x b)) ≡ same_list (bytes_at a y m) (bytes_at b y m)

@@ -78,7 +78,7 @@ returns-4 c =
     let p = at-shared-slice-known2.requires in
     let f : Full a.reply.now =
     record {
-      flag = ne_eqb (get_or a.reply.now stamp_size 0) 0 at-size-of.if-reply-eq0.left;
+      flag = ne_eqb (get_or a.reply.now stamp_size 0) 0 at-size-of.if-reply-eq0.false;
       top = omega (arith, at-size-of.size_of-n.ensures);
     } in
     let q : same_stamp (stamp_at_def a.reply.now) (stamp_at_def a.candidate.now) ≡ true =

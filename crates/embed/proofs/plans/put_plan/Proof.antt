@@ -102,7 +102,7 @@ returns c =
     let at-memory = c.before.before in
     let at-packets = at-memory.before.before.before.before.before in
     let s = start-from-packets at-packets in
-    all-parts s.args.plan (next-part 1 refl (omega (arith, s.requires)) (packets-stand at-packets) at-memory.put_at-past_kinds.ensures)
+    all-parts s.args.plan (next-part 1 refl (omega (arith, s.requires)) (packets-stand at-packets) at-memory.put_at.ensures)
 
 pub put_plan_spec : {M : Type 1} → statement M
 put_plan_spec = tie.close (tie.spec (λ c. search rules) put-at-requires (λ c. search rules) put-at-requires-2 (λ c. search rules) put-at-requires-3

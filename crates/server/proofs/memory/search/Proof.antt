@@ -45,7 +45,7 @@ size_is c =
     let at-loop = at-loop-from-else1 at-else1 in
     let at-shared-slice-known = shared-slice-known-from-at-loop at-loop in
     size-told at-shared-slice-known.args.t at-shared-slice-known.args.memory.now
-    at-loop.loop-i.at at-else1.rest-write.ensures c.rest-write.ensures c.number2-length.ensures
+    at-loop.loop-i.at at-else1.rest-write.ensures c.rest.ensures c.number2-length.ensures
     at-loop.share_size-frame.ensures c.fragment_size.ensures
 
 returns : tie.Need-returns-then-same invariant-loop decreases-loop
