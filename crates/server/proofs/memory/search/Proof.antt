@@ -45,7 +45,7 @@ size_is c =
     let at-loop = at-loop-from-else1 at-else1 in
     let at-shared-slice-known = shared-slice-known-from-at-loop at-loop in
     size-told at-shared-slice-known.args.t at-shared-slice-known.args.memory.now
-    at-loop.loop-i.at at-else1.rest-write.ensures c.rest-write.ensures c.number2-length.ensures
+    at-loop.loop-i.at at-else1.rest-write.ensures c.rest.ensures c.number2-length.ensures
     at-loop.share_size-frame.ensures c.fragment_size.ensures
 
 returns : tie.Need-returns-then-same invariant-loop decreases-loop
@@ -96,9 +96,9 @@ loop-again c =
     let at-else1 = else1-from-else2 c in
     let at-loop = at-loop-from-else1 at-else1 in (
       omega arith,
-      walk_more at-loop.loop.invariant.1 (λ i. ((shared-slice-known-from-at-loop at-loop).shared_slice_known-1.given
+      walk_more at-loop.loop-i.invariant.1 (λ i. ((shared-slice-known-from-at-loop at-loop).shared_slice_known-1.given
           i).fits) (omega arith) at-else1.rest-write.ensures
-          at-else1.part.ensures at-else1.same.ensures at-else1.if-same.left (size_is c.before),
+          at-else1.part.ensures at-else1.same.ensures at-else1.if-same.false (size_is c.before),
     )
 
 returns-3 : tie.Need-returns invariant-loop decreases-loop

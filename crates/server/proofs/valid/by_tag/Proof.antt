@@ -11,7 +11,7 @@ returns c =
     let a = at-part2.args in
     tag-made a.prepared a.opened a.candidate.now a.digest at-part2.part-stamp.ensures
     at-part2.prepared_tag_with-tag.ensures at-part2.tags_size.ensures
-    at-part2.part-tags.ensures c.part-stamp.ensures c.same_throughout.ensures
+    at-part2.part-tags.ensures c.part.ensures c.same_throughout.ensures
 
 pub by_tag_spec : {M : Type 1} → statement M
 by_tag_spec = tie.close (tie.spec (λ c κs. search rules) (λ c κs. search rules) (λ c κs. search rules) (λ c κs. search rules) (λ c. search rules)
