@@ -29,7 +29,7 @@ best_snoc : (P : Primitives) (s : Config) (key : List ℕ) (b : ℕ) (v : Server
     → best P s key b v c (xs ++ d ∷ []) ≡ cond (valid P s key b v d && below (best P s key b v c xs).stamp d.stamp) d (best P s key b v c xs)
 unfolding best
 best_snoc P s key b v c [] d = refl
-best_snoc P s key b v c (x ∷ xs) d = best_snoc P s key b v _ xs d
+best_snoc P s key b v c (x ∷ xs) d = best_snoc P s key b v (cond (valid P s key b v x && below c.stamp x.stamp) x c) xs d
 
 stamp_ranges : (s : Config) (c : Candidate) → (candidate_f s).Ok c → (1 ≤ c.stamp.number) × (c.stamp.writer < 256)
 unfolding candidate_f stamp_f via seq number4 byte

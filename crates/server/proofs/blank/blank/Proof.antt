@@ -78,7 +78,7 @@ returns-4 c =
     let at-else3 = else3-from-slice-known2 c in
     let at-else2 = at-else3.before.before.before in
     let a = (start-from-else2 at-else2).args in
-    blank-made a.memory.now a.t a.server at-else2.if-memory-ne-MEMORY.left (faults-in at-else2) (server-in at-else3)
+    blank-made a.memory.now a.t a.server at-else2.if-memory-ne-MEMORY.false (faults-in at-else2) (server-in at-else3)
     c.clear.ensures
 
 pub blank_spec : {M : Type 1} → statement M

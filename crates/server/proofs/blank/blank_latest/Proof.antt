@@ -9,16 +9,16 @@ returns c = rw c.refused.ensures (latest-size c.args.memory.now c.if-memory-ne-M
 
 returns-2 : tie.Need-returns-in_default
 returns-2 c =
-    let at-else1 = c.before.before.before.before in
-    let m = rw c.in_default.is at c.before.before.before.«open».ensures in
+    let at-else1 = c.before.before.before in
+    let m = rw c.in_default.is at c.«open».ensures in
     rw c.refused-in_default.ensures (latest_broken at-else1.args.memory.now at-else1.if-memory-ne-MEMORY.false m)
 
 returns-3 : tie.Need-returns
 returns-3 c =
     let at-candidate-size = c.before.before.before.before in
     let at-opened = at-candidate-size.before.before.before in
-    let at-else1 = at-opened.before.before.before in
-    let m = rw at-opened.in-Value.is at at-opened.before.before.«open».ensures in
+    let at-else1 = at-opened.before.before in
+    let m = rw at-opened.in-Value.is at at-opened.«open».ensures in
     latest-blanked at-else1.args.memory.now at-else1.if-memory-ne-MEMORY.false (λ i. (at-else1.slice_known-1.given i).fits) m
     at-candidate-size.candidate_size.ensures c.part.ensures c.put.ensures
 

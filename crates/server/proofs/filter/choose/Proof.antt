@@ -35,7 +35,7 @@ returns-3 c =
     let a = (start-from-slot-with at-slot-with).args in
     highest-tagged a.memory.now a.key a.opened a.list.now a.count (omega arith)
     (λ i. (at-slot-with.shared_slice_known-2-1.given i).fits) at-slot-with.next_rank-rank.ensures
-    (omega (arith, at-slot-with.if-rank-eq0.left)) at-slot-with.slot_with-i.ensures at-else2.slot-candidate.ensures
+    (omega (arith, at-slot-with.if-rank-eq0.false)) at-slot-with.slot_with-i.ensures at-else2.slot-candidate.ensures
     at-else2.digest_nonce-digest.ensures at-else2.by_history.ensures
     c.if-by_history.false c.prepare-prepared.ensures c.by_tag.ensures c.if-by_tag.true
 
@@ -45,9 +45,9 @@ returns-4 c =
     let at-slot-with = slot-with-from-else2 at-else2 in
     let at-start = start-from-slot-with at-slot-with in
     let a = at-start.args in
-    then-under a.memory.now a.key a.opened a.list.now a.count (omega (arith, at-start.fits.count.fits))
+    then-under a.memory.now a.key a.opened a.list.now a.count (omega (arith, at-start.ranges.count.fits))
     (λ i. (at-slot-with.shared_slice_known-2-1.given i).fits) at-slot-with.next_rank-rank.ensures
-    (omega (arith, at-slot-with.if-rank-eq0.left)) at-slot-with.slot_with-i.ensures at-else2.slot-candidate.ensures
+    (omega (arith, at-slot-with.if-rank-eq0.false)) at-slot-with.slot_with-i.ensures at-else2.slot-candidate.ensures
     at-else2.digest_nonce-digest.ensures at-else2.by_history.ensures
     at-else2.if-by_history.false c.prepare-prepared.ensures c.by_tag.ensures
     c.if-by_tag.false c.choose_under.result c.choose_under.ensures

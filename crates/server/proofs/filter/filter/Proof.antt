@@ -43,8 +43,8 @@ returns c =
 returns-2 : tie.Need-returns
 returns-2 c =
     let at-reply-held2 = c.before.before.before.before.before.before in
-    let at_slot = at-reply-held2.before.before.before.before in
-    let at-choose = at_slot.before in
+    let at_slot = at-reply-held2.before.before.before in
+    let at-choose = at_slot.before.before in
     let at_rest = rest-from-choose at-choose in
     λ o own dec k room.
     let z = start-from-rest at_rest in

@@ -37,7 +37,7 @@ stamp_is c = rw c.in-Value.is at c.stamp_field.ensures
 took : (c : tie.In-Value-share_field invariant-loop decreases-loop)
     → TookLabelled (write_l (shelf (loop-from-label (label-from-next c)).args.t))
     (loop-from-label (label-from-next c)).args.memory.now
-    (loop-from-label (label-from-next c)).loop.at (label-from-next c).in-Value.label c.in-Value-share_field.field-0 c.in-Value-share_field.next.at
+    (loop-from-label (label-from-next c)).loop-i.at (label-from-next c).in-Value.label c.in-Value-share_field.field-0 c.in-Value-share_field.next.at
 took c =
     let at_label = label-from-next c in
     write-took (shelf (loop-from-label at_label).args.t) (stamp_is at_label)
@@ -62,7 +62,7 @@ repeats-requires c κs = last-rank _ (took c.before).label c.rank_of-key.ensures
 returns-3 : tie.Need-returns-then-repeats invariant-loop decreases-loop
 returns-3 c =
     let at_next = c.before.before.before in
-    check-held _ (loop-from-label (label-from-next at_next)).loop.invariant.1 (omega arith) (took at_next).took.leaves _ c.repeats.ensures
+    check-held _ (loop-from-label (label-from-next at_next)).loop-i.invariant.1 (omega arith) (took at_next).took.leaves _ c.repeats.ensures
     c.if-repeats.true
 
 loop-again : tie.Need-loop-i-preserved invariant-loop decreases-loop
@@ -71,7 +71,7 @@ loop-again c =
     let at_next = at-repeats.before.before in
     let at_label = label-from-next at_next in
     let at-loop = loop-from-label at_label in
-    let left = at_label.loop-i-test.taken in
+    let left = at_label.loop-i-test.true in
     let w = took at_next in (
       omega (arith, left),
       check_more _ at-loop.loop-i.invariant.1 (omega (arith, left)) w.took.leaves (λ i. (at-loop.shared_slice_known-1.given i).fits)

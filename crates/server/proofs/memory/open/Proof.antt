@@ -133,7 +133,7 @@ returns-5 c =
     let l = c.before.before in
     let s = after-server (after-n l) in
     no_writes (size_is (after-t s)) (t-took (after-t s)) (servers-are s) (server-took s) (n-took (after-n l))
-    (latest-took l).took (λ i. ((first l).before.before.before.shared_slice_known-1.given i).fits) c.in_default-check_writes.is
+    (latest-took l).took (λ i. ((first l).shared_slice_known-1.given i).fits) c.in_default-check_writes.is
     c.check_writes.ensures
 
 abbrev c4-from-end : tie.In-Past → tie.In-Value-any_candidate_field

@@ -96,9 +96,9 @@ loop-again c =
     let at-else1 = else1-from-else2 c in
     let at-loop = at-loop-from-else1 at-else1 in (
       omega arith,
-      walk_more at-loop.loop.invariant.1 (λ i. ((shared-slice-known-from-at-loop at-loop).shared_slice_known-1.given
+      walk_more at-loop.loop-i.invariant.1 (λ i. ((shared-slice-known-from-at-loop at-loop).shared_slice_known-1.given
           i).fits) (omega arith) at-else1.rest-write.ensures
-          at-else1.part.ensures at-else1.same.ensures at-else1.if-same.left (size_is c.before),
+          at-else1.part.ensures at-else1.same.ensures at-else1.if-same.false (size_is c.before),
     )
 
 returns-3 : tie.Need-returns invariant-loop decreases-loop

@@ -7,14 +7,14 @@ use Rattle.server.proofs.repair.raise_valid.Tie as tie
 returns : tie.Need-returns-then-valid
 returns c =
     let at-then1 = c.before.before.before.before in
-    let at-slice-known = at-then1.before.before.before.before in
+    let at-slice-known = at-then1.before.before.before in
     raised-valid at-slice-known.args.memory.now (λ i. (at-slice-known.slice_known-1.given i).fits) at-slice-known.args.key
     at-slice-known.args.opened at-slice-known.args.candidate.now
     at-then1.valid.ensures at-then1.if-valid.true c.raise.ensures
 
 returns-2 : tie.Need-returns-else-valid
 returns-2 c =
-    let at-slice-known = c.before.before.before.before in
+    let at-slice-known = c.before.before.before in
     left_invalid at-slice-known.args.memory.now (λ i. (at-slice-known.slice_known-1.given i).fits) at-slice-known.args.key
     at-slice-known.args.opened at-slice-known.args.candidate.now c.valid.ensures c.if-valid.false
 

@@ -20,8 +20,8 @@ filter-requires c κs =
 returns : tie.Need-returns-in-1
 returns c =
     let at-clock = c.before.before in
-    let at-arm = at-clock.before.before.before in
-    let a = (start-from-head at-arm).args in
+    let at-arm = at-clock.before.before in
+    let a = (start-from-head at-arm.before).args in
     λ o own dec sent room. at-clock.clock.ensures a.packet.now a.key a.opened o own dec at-arm.in-1.is room
 
 returns-2 : tie.Need-returns-in-3
@@ -41,8 +41,8 @@ returns-3 c =
 returns-4 : tie.Need-returns-in-7
 returns-4 c =
     let at-collect = c.before.before in
-    let at-arm = at-collect.before.before.before in
-    let a = (start-from-head at-arm).args in
+    let at-arm = at-collect.before.before in
+    let a = (start-from-head at-arm.before).args in
     λ o own dec sent room. at-collect.collect.ensures a.packet.now a.key a.opened o own dec at-arm.in-7.is room
 
 returns-5 : tie.Need-returns-in-9

@@ -20,13 +20,13 @@ returns-2 c =
     let at-else1 = c.before.before.before in
     let a = (start-from-else1 at-else1).args in
     take_broken a.memory.now a.key.now a.packet.now a.out.now at-else1.if-memory-ne-MEMORY.false
-    (rw c.in_default.is at c.before.before.before.«open».ensures) c.refused-in_default.ensures
+    (rw c.in_default.is at c.«open».ensures) c.refused-in_default.ensures
 
 abbrev else1-from-opened : tie.In-Value → tie.Else-memory-ne-MEMORY
 else1-from-opened c = c.before.before
 
 opens : (c : tie.In-Value) → OpenedAs (start-from-else1 (else1-from-opened c)).args.memory.now c.in-Value.opened
-opens c = rw c.in-Value.is at c.before.before.«open».ensures
+opens c = rw c.in-Value.is at c.«open».ensures
 
 returns-3 : tie.Need-returns-in_default-read_packet
 returns-3 c =
@@ -34,7 +34,7 @@ returns-3 c =
     let at-else1 = else1-from-opened at-opened in
     let a = (start-from-else1 at-else1).args in
     let m = opens at-opened in
-    take_unread a.memory.now a.key.now a.packet.now a.out.now at-else1.if-memory-ne-MEMORY.left m
+    take_unread a.memory.now a.key.now a.packet.now a.out.now at-else1.if-memory-ne-MEMORY.false m
     (rw c.in_default-read_packet.is at c.read_packet.ensures) c.refused-in_default-read_packet.ensures
 
 abbrev opened-from-passed : tie.In-Value-read_packet → tie.In-Value
@@ -55,7 +55,7 @@ returns-4 c =
     let a = (start-from-else1 at-else1).args in
     let m = opens at-opened in
     let p = read at-passed in
-    take-refused a.memory.now a.key.now a.packet.now a.out.now at-else1.if-memory-ne-MEMORY.left m _ p.packet
+    take-refused a.memory.now a.key.now a.packet.now a.out.now at-else1.if-memory-ne-MEMORY.false m _ p.packet
     (c.refusal-number.ensures a.packet.now p.label) c.if-number-ne0.true c.refused-then-number-ne0.ensures
 
 answer-requires : tie.Need-answer-requires
@@ -74,7 +74,7 @@ returns-5 c =
     let a = (start-from-else1 at-else1).args in
     let m = opens at-opened in
     let p = read at-passed in
-    take-answered a.memory.now a.key.now a.packet.now a.out.now at-else1.if-memory-ne-MEMORY.left m _ p.packet
+    take-answered a.memory.now a.key.now a.packet.now a.out.now at-else1.if-memory-ne-MEMORY.false m _ p.packet
     (at-else2.refusal-number.ensures a.packet.now p.label)
     at-else2.if-number-ne0.false at-answer.answer.ensures
 
