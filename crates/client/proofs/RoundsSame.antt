@@ -126,9 +126,15 @@ module _ (P : Primitives) (client : ℕ) (writers : List ℕ) (keys : ByServer (
   pub filter_one : (q : Bool) → stepped 5 k q ≡ take_filter_def P s client writers keys (C 5) kept output q b x
   filter_one q = values q ∙ sym (λ i. judged q (marks_now a i) (replies_now a i) (gather (slots_now a i) s.servers)) ∙ bytes q
     where
+      ended : stepped 5 k true ≡ judged true m g cs
+      ended = unfold update hand_of view in judge_one (live P s m g cs) (choice P s m g cs)
+
+      going : stepped 5 k false ≡ judged false m g cs
+      going = unfold update hand_of view took onto took_by after put_back begins awaits over noted in rw (noted-marks a)
+
       values : (q : Bool) → stepped 5 k q ≡ judged q m g cs
-      values true = unfold update hand_of view in judge_one (live P s m g cs) (choice P s m g cs)
-      values false = unfold update hand_of view took onto took_by after put_back begins awaits over noted in rw (noted-marks a)
+      values true = ended
+      values false = going
 
       bytes : (q : Bool) → let zs = set c.tally.marks (b - 1) 1 in
           judged q (marked zs) (replies_in s zs k) (gather (candidates_in s k) s.servers)

@@ -44,7 +44,7 @@ cast-next-call : tie.Need-overflow_cast-content
 cast-next-call c =
     let at-else2 = else2-from-slice-known2 c in
     let a = (start-from-else2 at-else2).args in
-    let z = sym at-else2.write_refusal-n.ensures ∙ at-else2.if-n-ne0.left in
+    let z = sym at-else2.write_refusal-n.ensures ∙ at-else2.if-n-ne0.false in
     let f = write-fits a.party.t a.party.client a.call a.kept.now a.content.now a.nonce.now z in
     omega arith
 
@@ -52,7 +52,7 @@ next-call-requires : tie.Need-next_call-requires
 next-call-requires c κs =
     let at-else2 = else2-from-slice-known2 c in
     let a = (start-from-else2 at-else2).args in
-    let z = sym at-else2.write_refusal-n.ensures ∙ at-else2.if-n-ne0.left in
+    let z = sym at-else2.write_refusal-n.ensures ∙ at-else2.if-n-ne0.false in
     let f = write-fits a.party.t a.party.client a.call a.kept.now a.content.now a.nonce.now z in
     omega arith
 

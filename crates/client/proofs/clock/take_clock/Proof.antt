@@ -63,7 +63,7 @@ note-reply-requires c κs =
 
 is-full-requires : tie.Need-is_full-ends-requires
 is-full-requires c κs =
-    let q = start-from-higher c.before.before.before.before in
+    let q = start-from-higher c.before.before.before.before.before in
     let a = q.args in
     (ready-faults a.party.t a.party.client a.call a.reply.now a.passed.head q.requires.0).1
 

@@ -27,29 +27,28 @@ answer-is c = sym c.decide-decision.ensures.0
 
 found-requires : tie.Need-found-requires
 found-requires c κs =
-    let at-decision2 = c.before.before.before.before in
-    let at-decide = at-decision2.before.before in
+    let at-decide = c.before.before.before.before.before.before in
     let at-slice-known = slice-known-from-decide at-decide in
     let a = at-slice-known.args in
     let p = at-slice-known.requires in
-    let d = at-decision2.decision-in-Found-1.given in
+    let d = c.in-Found in
     let F = (shelf-fits a.t p.0 p.1.0).few in
     let l : length {A = ℕ} (replicate content_room 0) ≡ content_room = length-replicate {A = ℕ} content_room 0 in
     let e : (decided a.t a.call.tally.marks a.kept.now (replicate content_room 0)).answer ≡ decision_answer
-    (decisions.Found d.0.0 d.0.1.0 d.0.1.1.0) = answer-is at-decide ∙ ap decision_answer d.1 in
+    (decisions.Found d.slot d.server d.n) = answer-is at-decide ∙ ap decision_answer d.is in
     let r = found_range a.t a.call.tally.marks a.kept.now (record { low = p.0; high = p.1.0; size = p.1.1.0 })
-    (λ k. (at-slice-known.slice_known-1.given k).fits) (replicate content_room 0) (omega (arith, l)) d.0.0 d.0.1.0 d.0.1.1.0 e in
-    let z : length at-decide.decide-decision.new.1.1.1.0 ≡ 1024 = search rules in
-    let q : length c.part-content.result.now ≤ length at-decide.decide-decision.new.1.1.1.0 = rw c.part-content.ensures
-    (part_short at-decide.decide-decision.new.1.1.1.0 d.0.1.1.0) in
+    (λ k. (at-slice-known.slice_known-1.given k).fits) (replicate content_room 0) (omega (arith, l)) d.slot d.server d.n e in
+    let z : length at-decide.decide-decision.new.out ≡ 1024 = search rules in
+    let q : length c.part-content.result.now ≤ length at-decide.decide-decision.new.out = rw c.part-content.ensures
+    (part_short at-decide.decide-decision.new.out d.n) in
     (p.1.0, (omega (arith, r.0), (r.1.0, (omega (arith, r.1.1), (p.1.1.0, (omega (arith, q, z), p.1.1.1))))))
 
 returns : tie.Need-returns-in-Refused
 returns c =
     let at-decide = c.before.before.before in
     let a = (slice-known-from-decide at-decide).args in
-    let d = c.decision-1.given in
-    rw c.refused.ensures (judged-refused a.t a.call a.kept.now a.out.now d.0.0 (answer-is at-decide ∙ ap decision_answer d.1))
+    let d = c.in-Refused in
+    rw c.refused.ensures (judged-refused a.t a.call a.kept.now a.out.now d.n (answer-is at-decide ∙ ap decision_answer d.is))
 
 returns-2 : tie.Need-returns-in-Wait
 returns-2 c =
@@ -68,13 +67,12 @@ returns-3 c =
 returns-4 : tie.Need-returns-in-Found
 returns-4 c =
     let at-found = c.before.before.before.before in
-    let at-decision2 = at-found.before.before.before.before.before in
-    let at-decide = at-decision2.before.before in
+    let at-decide = at-found.before.before.before.before.before.before.before in
     let a = (slice-known-from-decide at-decide).args in
-    let d = at-decision2.decision-in-Found-1.given in
-    at-found.found.ensures ∙ judged-found a.t a.call a.kept.now a.out.now d.0.0 d.0.1.0 d.0.1.1.0
-    at-found.part-content.result.now (answer-is at-decide ∙ ap decision_answer d.1)
-    (at-found.part-content.ensures ∙ ap (λ (x : List ℕ). bytes_at x 0 d.0.1.1.0) at-decide.decide-decision.ensures.1)
+    let d = at-found.in-Found in
+    at-found.found.ensures ∙ judged-found a.t a.call a.kept.now a.out.now d.slot d.server d.n
+    at-found.part-content.result.now (answer-is at-decide ∙ ap decision_answer d.is)
+    (at-found.part-content.ensures ∙ ap (λ (x : List ℕ). bytes_at x 0 d.n) at-decide.decide-decision.ensures.1)
 
 pub judge_spec : {M : Type 1} → statement M
 judge_spec = tie.close (tie.spec (λ c. search rules) (λ c κs. search rules) (λ c. search rules) (λ c κs. search rules) (λ c. search rules)

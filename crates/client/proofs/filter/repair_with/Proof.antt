@@ -28,7 +28,7 @@ write-at-requires-2 c κs =
     let n = c.candidate_size-size.result in
     let z : n ≡ candidate_size_def (shelf at-start.args.led.t) =
     c.candidate_size-size.ensures in
-    let q : length c.part.result.now ≤ n = rw c.part.ensures (part-most at-put-repair.put_repair.new.0 0 n) in
+    let q : length c.part.result.now ≤ n = rw c.part.ensures (part-most at-put-repair.put_repair.new.bytes 0 n) in
     omega (
       arith,
       at-start.requires.0,
@@ -44,10 +44,10 @@ returns c =
     let a = at-start.args in
     let p = at-start.requires in
     let R : List ℕ = repair_bytes a.led.t a.kept.now a.led.slot a.led.server (length a.content.now) in
-    let e : at-put-repair.put_repair.new.0 ≡ put (replicate candidate_slot 0) 0 R =
+    let e : at-put-repair.put_repair.new.bytes ≡ put (replicate candidate_slot 0) 0 R =
     at-put-repair.put_repair.ensures in
     let l : length {A = ℕ} (replicate candidate_slot 0) ≡ candidate_slot = length-replicate {A = ℕ} candidate_slot 0 in
-    let k : bytes_at at-put-repair.put_repair.new.0 0 (candidate_size_def (shelf a.led.t)) ≡ R =
+    let k : bytes_at at-put-repair.put_repair.new.bytes 0 (candidate_size_def (shelf a.led.t)) ≡ R =
     ap (λ (x : List ℕ). bytes_at x 0 (candidate_size_def (shelf a.led.t))) e
     ∙ repair-cut a.led.t a.kept.now a.led.slot a.led.server (length a.content.now) p.0 p.1.1.1.1.0 p.1.0
     p.1.1.0 p.1.1.1.0

@@ -91,7 +91,7 @@ returns c =
     let Y : Bytes a.reply.now = λ k. (at-shared-slice-known.shared_slice_known-1.given k).fits in
     let e = ended at-is-full _ at-judge.if-is_full.true in
     let at : ℕ = replies_place + reply_slot * (a.head.server - 1) in
-    let N : Bytes at-put-reply.put_reply.new.0 = λ k. (at-is-full.slice_known-3-1.given k).fits in
+    let N : Bytes at-put-reply.put_reply.new.kept = λ k. (at-is-full.slice_known-3-1.given k).fits in
     let K : Bytes (put a.kept.now at (drop head_size a.reply.now)) = subst Bytes (at-put-reply.put_reply.ensures ∙ ap
     (put a.kept.now at) at-put-reply.rest.ensures) N in
     λ writers keys. at-judge.judge.ensures ∙ rw (

@@ -27,7 +27,7 @@ put-head-from-put-list c = c.before.before.before.before
 abbrev put-list-from-put-byte-arg : tie.After-put_byte-arg-1 → tie.After-put_list-n
 put-list-from-put-byte-arg c = c.before.before.before.before
 
-headed : (c : tie.After-put_head-a) → (c.put_head-a.result ≡ head_size) × (length c.put_head-a.new.0 ≡ length (start-from-put-head c).args.out.now)
+headed : (c : tie.After-put_head-a) → (c.put_head-a.result ≡ head_size) × (length c.put_head-a.new.out ≡ length (start-from-put-head c).args.out.now)
 headed c = let at-start = start-from-put-head c in after-head at-start.args.head at-start.args.out.now at-start.requires.1.1.1 c.put_head-a.ensures
 
 -- the candidates that are listed

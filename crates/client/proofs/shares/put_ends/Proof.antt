@@ -52,7 +52,7 @@ loop-again c =
       (
         e ∙ slots_more reply_slot (replies_place + (2 + at-loop.fragment_size-f.result)) (λ _. a.common.now) a.kept.now
             at-loop.loop-i.i v.1.0 refl,
-        (let z : length c.write_at.new.0 ≡ length at-loop.loop-i.auto = search rules in z ∙ v.1.1),
+        (let z : length c.write_at.new.kept ≡ length at-loop.loop-i.kept = search rules in z ∙ v.1.1),
       ),
     )
 

@@ -69,7 +69,7 @@ returns c =
     )
 
 pub put_fragment_spec : {M : Type 1} → statement M
-put_fragment_spec = tie.close (tie.spec (λ c κs. search rules) (λ c. omega (arith, few c.before.before.before.before))
+put_fragment_spec = tie.close (tie.spec (λ c κs. search rules) (λ c. omega (arith, few c.before.before.before))
     (λ c κs. search rules) (λ c. search rules) (λ c κs. search rules) (λ c κs. search rules) (λ c. search rules) (λ c. search rules)
     (λ c κs. search rules) (λ c. omega (arith, few (start-from-content (content-from-part (part-from-slice-known3 c)))))
     (λ c. omega (arith, few (start-from-content (content-from-part (part-from-slice-known3 c))))) put-start-requires (λ c. search rules)

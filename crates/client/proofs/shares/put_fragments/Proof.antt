@@ -36,8 +36,8 @@ start-from-at-loop c = c.before.before.before.before
 
 -- the lengths stay, and so does the content
 stay : (c : tie.At-loop-i invariant-loop decreases-loop)
-    → let a = (start-from-at-loop c).args in (length c.loop-i.auto ≡ kept_size) × (length c.loop-i.digests ≡ length a.digests.now)
-    × (content_of a.call c.loop-i.auto ≡ content_of a.call a.kept.now)
+    → let a = (start-from-at-loop c).args in (length c.loop-i.kept ≡ kept_size) × (length c.loop-i.digests ≡ length a.digests.now)
+    × (content_of a.call c.loop-i.kept ≡ content_of a.call a.kept.now)
 stay c =
     let at-start = start-from-at-loop c in
     let a = at-start.args in

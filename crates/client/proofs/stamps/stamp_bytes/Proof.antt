@@ -28,7 +28,7 @@ returns c =
     let a = at-stamp-message.args in
     let M : List ℕ = at-stamp-message.stamp_message-message.result in
     let G : List ℕ = at-write-at.tag-tag.result in
-    let v : c.write_at-2.new.0 ≡ M ++ G = z ∙ (ap (λ (x : List ℕ). put x 5 G) y ∙ two_puts (replicate (5 + tag_size) 0) M G 5 lm
+    let v : c.write_at-2.new.kept ≡ M ++ G = z ∙ (ap (λ (x : List ℕ). put x 5 G) y ∙ two_puts (replicate (5 + tag_size) 0) M G 5 lm
     (omega (arith, lm, lg, lz))) in
     let q : M ++ G ≡ stamp_message_def a.number a.writer ++ tag_of a.writers.now (stamp_message_def a.number a.writer) = rw (g, m) in
     v ∙ q

@@ -62,7 +62,7 @@ returns-3 c =
     let a = z.args in
     let p = z.requires in
     let q = ready-round a.party.t a.party.client a.call a.reply.now a.head p.0 in
-    let e : a.call.tally.round ≡ 6 = omega (arith, p.1.0, at-match.match.rest.0.1, at-match.match.rest.1) in
+    let e : a.call.tally.round ≡ 6 = omega (arith, p.1.0, c.in_default.in_default-own.rest.0.1, c.in_default.in_default-own.rest.1) in
     λ writers keys. takes-repair a.party.t a.party.client writers keys a.call a.kept.now a.reply.now a.out.now a.head
     p.0 p.1.1.1
     e c.take_repair.result c.take_repair.ensures.0 _ c.take_repair.ensures.1

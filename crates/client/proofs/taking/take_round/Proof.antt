@@ -34,7 +34,7 @@ returns-2 c =
 
 take-write-round-requires : tie.Need-take_write_round-requires
 take-write-round-requires c κs =
-    let at-if1 = c.before.before.before in
+    let at-if1 = c.before.before in
     let z = start-from-tally at-if1.before in
     let a = z.args in
     let p = z.requires in
@@ -43,15 +43,14 @@ take-write-round-requires c κs =
 
 returns-3 : tie.Need-returns-then-round-lt-COLLECT
 returns-3 c =
-    let at-if2 = c.before.before.before in
-    let a = (start-from-tally at-if2.before).args in
+    let at-if2 = c.before.before in
+    let a = c.args in
     c.take_write_round.ensures a.writers.now a.keys.now a.out.now (omega (arith, at-if2.if-out-lt-CONTENT_ROOM.false))
 
 returns-4 : tie.Need-returns
 returns-4 c =
     let at-take-read-round = c.before.before.before.before in
-    let at-if3 = at-take-read-round.before.before.before in
-    let a = (start-from-tally at-if3.before.before.before.before).args in
+    let a = c.args in
     at-take-read-round.take_read_round.ensures a.writers.now a.keys.now
 
 pub take_round_spec : {M : Type 1} → statement M
