@@ -37,7 +37,7 @@ list-requires c κs =
     let m : at-rows-for.rows_for.result ≡ rows_for_def (length (lines a.sheet.now)) =
     at-rows-for.rows_for.ensures ∙ ap rows_for_def at-rows-for.count_lines.ensures in (
       (
-        c.work-1.given ∙ at-rows-for.if-work-ne-WORK.left,
+        c.work-1.given ∙ at-rows-for.if-work-ne-WORK.false,
         at-work.clear.ensures ∙ ap (λ (n : ℕ). replicate n 0) (sym c.work-1.given),
       ),
       room_fits (length a.out.now) _ (rw m at at-work.if-out-rows_for.false),
@@ -51,7 +51,7 @@ returns-3 c =
     let a = (start-from-rows-for at-rows-for).args in
     let m : at-rows-for.rows_for.result ≡ rows_for_def (length (lines a.sheet.now)) =
     at-rows-for.rows_for.ensures ∙ ap rows_for_def at-rows-for.count_lines.ensures in
-    drill-0 a.sheet.now a.out.now a.work.now at-rows-for.if-work-ne-WORK.left (room_fits (length a.out.now) _
+    drill-0 a.sheet.now a.out.now a.work.now at-rows-for.if-work-ne-WORK.false (room_fits (length a.out.now) _
     (rw m at at-work.if-out-rows_for.false)) at-work2.list-n.ensures
     (c.clear-2.ensures ∙ ap (λ (n : ℕ). replicate n 0) (at-work2.work-2-1.given ∙ at-work.work-1.given))
 
