@@ -33,7 +33,7 @@ cast-pack c =
     let e = m.ensures ∙ core-made d at-start.requires a.t a.client a.server
     at_rest.read-call.result _ (take l.result a.out.now) at_rest.read-call.ensures at_rest.rest.ensures in
     let n : m.result.count ≤ packet_room = made-count a.out.now l.result l.ensures.0 l.ensures.1.0 l.ensures.1.1 a.t
-    a.client a.server (call_at d) (kept_of_def d) m.result m.new.1.1.1.1.0 e m.auto.1.1.1.1.0 in omega (arith, n)
+    a.client a.server (call_at d) (kept_of_def d) m.result m.new.out e m.auto.out in omega (arith, n)
 
 returns : tie.Need-returns
 returns c =
@@ -47,7 +47,7 @@ returns c =
     a.server at_rest.read-call.result _ (take l.result a.out.now)
     at_rest.read-call.ensures at_rest.rest.ensures in
     made-out a.out.now l.result l.ensures.0 l.ensures.1.0 l.ensures.1.1 a.t a.client a.server (call_at d) (kept_of_def d)
-    m.result m.new.1.1.1.1.0 e m.auto.1.1.1.1.0 _ c.pack.ensures
+    m.result m.new.out e m.auto.out _ c.pack.ensures
 
 pub make_packet_spec : {M : Type 1} → statement M
 make_packet_spec = tie.close (tie.spec (λ c κs. search rules) (λ c κs. search rules) (λ c κs. search rules) (λ c. search rules)

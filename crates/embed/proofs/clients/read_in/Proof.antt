@@ -18,8 +18,8 @@ returns c =
     let a = at-start.args in
     let d = a.state.now in
     let e = core_read_lem d at-start.requires a.t a.client in
-    began d at-start.requires (begin_read_def a.t a.client (call_at d) (kept_of_def d)) begun.begin_read_in-begun.result begun.begin_read_in-begun.new.1.0
-    c.put_call.new.0
+    began d at-start.requires (begin_read_def a.t a.client (call_at d) (kept_of_def d)) begun.begin_read_in-begun.result begun.begin_read_in-begun.new.kept
+    c.put_call.new.state
     (begun.begin_read_in-begun.ensures.0 ∙ rw at-begin-read-in.read-call.ensures (ap started e))
     (begun.begin_read_in-begun.ensures.1 ∙ rw at-begin-read-in.read-call.ensures
     (ap (λ (b : Begun). b.kept) e)) c.put_call.ensures

@@ -22,7 +22,7 @@ returns c =
     let d = a.state.now in
     let e = core_take_lem d z.requires a.t a.client a.writers.now a.keys.now a.packet.now a.out.now in
     taken_in d z.requires (client_take real a.t a.client a.writers.now a.keys.now (call_at d) (kept_of_def d) a.packet.now a.out.now)
-    m.result m.new.1.0 p.put_call.new.0 m.new.1.1.1.1.1.1.0 c.pack_answer.result
+    m.result m.new.kept p.put_call.new.state m.new.out c.pack_answer.result
     (m.ensures ∙ rw q.read-call.ensures e) p.put_call.ensures (c.pack_answer.ensures ∙ ap packed_answer c.answer.ensures.0)
 
 pub take_packet_spec : {M : Type 1} → statement M

@@ -19,7 +19,7 @@ returns c =
     let d = a.state.now in
     let e = core_write_lem d at-start.requires a.t a.client a.content.now a.nonce in
     began d at-start.requires (begin_write_def a.t a.client (call_at d) (kept_of_def d) a.content.now a.nonce) begun.begin_write_in-begun.result
-    begun.begin_write_in-begun.new.1.0 c.put_call.new.0
+    begun.begin_write_in-begun.new.kept c.put_call.new.state
     (begun.begin_write_in-begun.ensures.0 ∙ rw at-begin-write-in.read-call.ensures
     (ap started e)) (begun.begin_write_in-begun.ensures.1 ∙ rw
     at-begin-write-in.read-call.ensures (ap (λ (b : Begun). b.kept) e)) c.put_call.ensures

@@ -6,11 +6,11 @@ use Rattle.embed.proofs.drills.cendrulas_drill.Statement.{statement}
 use Rattle.embed.proofs.drills.cendrulas_drill.Tie as tie
 
 returns : tie.Need-returns-then-o-ne0
-returns c = let m = c.drill-o in drill-refused _ m.result m.new.1.0 m.new.1.1.0
+returns c = let m = c.drill-o in drill-refused _ m.result m.new.out m.new.work
     m.ensures _ c.if-o-ne0.true c.pack.ensures
 
 returns-2 : tie.Need-returns
-returns-2 c = let m = c.drill-o in drill-listed _ m.result m.new.1.0 m.new.1.1.0
+returns-2 c = let m = c.drill-o in drill-listed _ m.result m.new.out m.new.work
     m.ensures c.if-o-ne0.false
 
 pub cendrulas_drill_spec : {M : Type 1} → statement M

@@ -29,7 +29,7 @@ abbrev start-from-kinds : tie.After-put_at-past_kinds → tie.Start
 start-from-kinds c = c.before.before.before.before.before.before.before.before
 
 kinds-stand : (c : tie.After-put_at-past_kinds) → let a = (start-from-kinds c).args in
-    Front a.numbers.now 13 a.plan.kinds c.put_at-past_kinds.new.0 c.put_at-past_kinds.result
+    Front a.numbers.now 13 a.plan.kinds c.put_at-past_kinds.new.dst c.put_at-past_kinds.result
 kinds-stand c =
     let s = start-from-kinds c in first_part 13 (kinds-size s) (omega (arith, s.requires)) c.put_at-past_kinds.ensures
 
@@ -37,7 +37,7 @@ abbrev kinds-from-filters : tie.After-put_at-past_filters → tie.After-put_at-p
 kinds-from-filters c = c.before.before.before.before.before
 
 filters-stand : (c : tie.After-put_at-past_filters) → let a = (start-from-kinds (kinds-from-filters c)).args in
-    Front a.numbers.now 27 (a.plan.kinds ++ a.plan.filters) c.put_at-past_filters.new.0 c.put_at-past_filters.result
+    Front a.numbers.now 27 (a.plan.kinds ++ a.plan.filters) c.put_at-past_filters.new.dst c.put_at-past_filters.result
 filters-stand c =
     let s = start-from-kinds (kinds-from-filters c) in
     next-part 14 (filters-size s) (omega (arith, s.requires)) (kinds-stand (kinds-from-filters c)) c.put_at-past_filters.ensures
@@ -46,7 +46,7 @@ abbrev filters-from-held : tie.After-put_at-past_held → tie.After-put_at-past_
 filters-from-held c = c.before.before.before.before.before
 
 held-stands : (c : tie.After-put_at-past_held) → let a = (start-from-kinds (kinds-from-filters (filters-from-held c))).args in
-    Front a.numbers.now 29 (a.plan.kinds ++ a.plan.filters ++ a.plan.held) c.put_at-past_held.new.0 c.put_at-past_held.result
+    Front a.numbers.now 29 (a.plan.kinds ++ a.plan.filters ++ a.plan.held) c.put_at-past_held.new.dst c.put_at-past_held.result
 held-stands c =
     let s = start-from-kinds (kinds-from-filters (filters-from-held c)) in
     next-part 2 (held-size s) (omega (arith, s.requires)) (filters-stand (filters-from-held c)) c.put_at-past_held.ensures
@@ -58,7 +58,7 @@ abbrev start-from-packets : tie.After-put_at-past_packets → tie.Start
 start-from-packets c = start-from-kinds (kinds-from-filters (filters-from-held (held-from-packets c)))
 
 packets-stand : (c : tie.After-put_at-past_packets) → let a = (start-from-packets c).args in
-    Front a.numbers.now 35 (join a.plan.kinds a.plan.filters a.plan.held a.plan.packets) c.put_at-past_packets.new.0 c.put_at-past_packets.result
+    Front a.numbers.now 35 (join a.plan.kinds a.plan.filters a.plan.held a.plan.packets) c.put_at-past_packets.new.dst c.put_at-past_packets.result
 packets-stand c =
     let s = start-from-packets c in
     next-part 6 (packets-size s) (omega (arith, s.requires)) (held-stands (held-from-packets c)) c.put_at-past_packets.ensures

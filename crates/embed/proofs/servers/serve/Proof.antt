@@ -19,29 +19,21 @@ slice-aggregate-take c =
 
 cast-pack : tie.Need-overflow_cast-count
 cast-pack c =
-    let past-take = c.before.before.before.before.before.before in
-    let past-lent = past-take.before.before.before.before in
-    let past-byte = past-lent.before.before.before in
-    let a = past-byte.args in
-    let l = past-lent.lent-n in
-    let t = past-take.take-o in
+    let a = c.args in
+    let l = c.lent-n in
+    let t = c.take-o in
     let n : t.result.count ≤ packet_room = served-count a.memory.now a.key a.packet.now a.out.now l.result l.ensures.0
-    l.ensures.1.0 l.ensures.1.1 t.result t.new.0 t.new.1.1.1.0 t.ensures t.auto.1.1.1.0 in
+    l.ensures.1.0 l.ensures.1.1 t.result t.new.memory t.new.out t.ensures t.auto.out in
     omega (arith, n)
 
 returns : tie.Need-returns
 returns c =
-    let past-take = c.before.before.before.before.before.before.before in
-    let past-lent = past-take.before.before.before.before in
-    let past-rank = past-lent.before in
-    let past-byte = past-rank.before.before in
-    let past-known = past-byte.before.before in
-    let a = past-known.args in
-    let l = past-lent.lent-n in
-    let t = past-take.take-o in
+    let a = c.args in
+    let l = c.lent-n in
+    let t = c.take-o in
     served-out a.memory.now a.key a.packet.now a.out.now l.result l.ensures.0 l.ensures.1.0 l.ensures.1.1 t.result
-    t.new.0 t.new.1.1.1.0 t.ensures t.auto.1.1.1.0 (λ i. (past-known.slice_known-1.given i).fits) _ _
-    (told_by a.memory.now t.new.0 _ _ _ past-byte.byte_at-writes.ensures past-rank.latest_rank-latest.ensures c.changed-result.ensures)
+    t.new.memory t.new.out t.ensures t.auto.out (λ i. (c.slice_known-1.given i).fits) _ _
+    (told_by a.memory.now t.new.memory _ _ _ c.byte_at-writes.ensures c.latest_rank-latest.ensures c.changed-result.ensures)
     c.pack.ensures
 
 pub serve_spec : {M : Type 1} → statement M

@@ -66,7 +66,7 @@ put-requires-2 c κs =
     let none = c.if-number-ne0.false in
     let most = square-most a.t a.servers.now made.result made.ensures none in
     let l : length made.result.rows ≡ rows_room = search rules in
-    (omega (arith, most, l), omega (arith, most, past.if-rows-lt-ROWS.left))
+    (omega (arith, most, l), omega (arith, most, past.if-rows-lt-ROWS.false))
 
 cast-pack : tie.Need-overflow_cast-k
 cast-pack c =
@@ -83,7 +83,7 @@ returns-4 c =
     let a = (start-from-weights past).args in
     let made = past.weights-made in
     weights-given a.t a.servers.now a.used.now a.rows.now made.result made.ensures
-    at-put.if-number-ne0.false (omega (arith, past.if-used-lt-WIDTH.left)) (omega (arith, past.if-rows-lt-ROWS.left)) _ _
+    at-put.if-number-ne0.false (omega (arith, past.if-used-lt-WIDTH.false)) (omega (arith, past.if-rows-lt-ROWS.false)) _ _
     _ c.pack-2.ensures at-put.put.ensures at-put2.put-2.ensures
 
 pub cendrulas_weights_spec : {M : Type 1} → statement M
