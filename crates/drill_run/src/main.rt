@@ -2,7 +2,10 @@
 // What it can't take, it says on standard error, and writes no listing then.
 #![tactic(auto)]
 
-use libc::{STDERR_FILENO, STDIN_FILENO, STDOUT_FILENO};
+ghost use Rattle.std.specs.Prelude.{◌≤◌, length, IfOk};
+
+use std::io;
+use std::io::Read;
 
 // Bytes of the buffer that a sheet is read into: one that fills it may go on.
 const SHEET: usize = 65536;
@@ -18,29 +21,49 @@ fn work_area() -> [u8; drill::WORK] {
     [0u8; drill::WORK]
 }
 
-fn say(words: &[u8]) {
-    io::write_all(STDERR_FILENO, words);
+fn say(rt: &impl Eprint, words: &str) -> io::Result<()> {
+    rt.eprint(words)
 }
 
-fn run(sheet: &[u8]) {
+fn run(rt: &(impl Print + Eprint), sheet: &[u8]) -> io::Result<()> {
     let mut out = output();
     let mut work = work_area();
     let done = drill::drill(sheet, &mut out, &mut work);
     if done.number != 0 {
-        say(b"drill_run: too many lines: a listing has at most 2,016 rows here\n");
-        return;
+        return say(
+            rt,
+            "drill_run: too many lines: a listing has at most 2,016 rows here\n",
+        );
     }
-    if !io::write_all(STDOUT_FILENO, wire::bytes::part(&out, 0, done.count)) {
-        say(b"drill_run: the listing can't be written\n");
+    if rt
+        .write_all(wire::bytes::part(&out, 0, done.count))
+        .is_err()
+    {
+        return say(rt, "drill_run: the listing can't be written\n");
     }
+    Ok(())
 }
 
-fn main() {
-    let mut sheet = io::large_buffer();
-    let n = io::read_full(STDIN_FILENO, &mut sheet);
-    if n == SHEET {
-        say(b"drill_run: a sheet has at most 65,535 bytes here\n");
-        return;
+// Reads until the buffer is full or the input ends: how many bytes stand at its start then.
+fn read_full(input: &mut impl Read, buffer: &mut [u8]) -> io::Result<usize>
+    ensures { IfOk result (λ n. n ≤ length buffer.new) }
+{
+    let mut done = 0;
+    while done < buffer.len() {
+        let n = input.read(&mut buffer[done..])?;
+        if n == 0 {
+            break;
+        }
+        done += n;
     }
-    run(&sheet[..n]);
+    Ok(done)
+}
+
+fn main(rt: HostRuntime) -> io::Result<()> {
+    let mut sheet = [0u8; SHEET];
+    let n = read_full(&mut rt.reader(), &mut sheet)?;
+    if n == SHEET {
+        return say(&rt, "drill_run: a sheet has at most 65,535 bytes here\n");
+    }
+    run(&rt, &sheet[..n])
 }

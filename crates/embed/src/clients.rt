@@ -71,8 +71,7 @@ fn outcome(o: cluster::Outcome) -> u64
     pack(o.number, 0, 0, 0)
 }
 
-#[unsafe(no_mangle)]
-pub extern "C" fn cendrulas_client_begin_write(
+pub fn cendrulas_client_begin_write(
     state: &mut [u8],
     t: usize,
     client: usize,
@@ -92,8 +91,7 @@ pub extern "C" fn cendrulas_client_begin_write(
     outcome(begun)
 }
 
-#[unsafe(no_mangle)]
-pub extern "C" fn cendrulas_client_begin_read(state: &mut [u8], t: usize, client: usize) -> u64
+pub fn cendrulas_client_begin_read(state: &mut [u8], t: usize, client: usize) -> u64
     ensures { record { answer = result; state = state.new } ≡ read_in_def state.old t client }
 {
     if state.len() != CLIENT {
@@ -120,8 +118,7 @@ fn pack_answer(a: protocol::Answer) -> u64
     )
 }
 
-#[unsafe(no_mangle)]
-pub extern "C" fn cendrulas_client_give_up(state: &mut [u8], t: usize, client: usize) -> u64
+pub fn cendrulas_client_give_up(state: &mut [u8], t: usize, client: usize) -> u64
     ensures { record { answer = result; state = state.new } ≡ give_up_in_def state.old t client }
 {
     if state.len() != CLIENT {
@@ -153,8 +150,7 @@ fn make_packet(state: &[u8], t: usize, client: usize, server: usize, out: &mut [
     pack(o.number, 0, 0, count as u16)
 }
 
-#[unsafe(no_mangle)]
-pub extern "C" fn cendrulas_client_make(
+pub fn cendrulas_client_make(
     state: &[u8],
     t: usize,
     client: usize,
@@ -200,8 +196,7 @@ fn take_packet(
     pack_answer(a.answer())
 }
 
-#[unsafe(no_mangle)]
-pub extern "C" fn cendrulas_client_take(
+pub fn cendrulas_client_take(
     state: &mut [u8],
     t: usize,
     client: usize,

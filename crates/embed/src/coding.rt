@@ -6,8 +6,7 @@ ghost use Rattle.embed.specs.Coding.{export_refusal, outcome_of};
 
 use super::pack::{pack, put};
 
-#[unsafe(no_mangle)]
-pub extern "C" fn cendrulas_fragment(t: usize, server: usize, content: &[u8], out: &mut [u8]) -> u64
+pub fn cendrulas_fragment(t: usize, server: usize, content: &[u8], out: &mut [u8]) -> u64
     ensures value { result ≡ answer (export_refusal t server content.now out.old) (fragment_bytes t server content.now) }
     ensures out_after { out.new ≡ written_by (export_refusal t server content.now out.old)
         (fragment_bytes t server content.now) out.old }
@@ -26,8 +25,7 @@ pub extern "C" fn cendrulas_fragment(t: usize, server: usize, content: &[u8], ou
     pack(0, 0, 0, count as u16)
 }
 
-#[unsafe(no_mangle)]
-pub extern "C" fn cendrulas_restore(
+pub fn cendrulas_restore(
     t: usize,
     length: usize,
     servers: &[usize],

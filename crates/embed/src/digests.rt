@@ -8,8 +8,7 @@ ghost use Rattle.embed.specs.Digests.{digest_refusal, keyed_refusal_def};
 
 use crate::pack::{array, pack, put};
 
-#[unsafe(no_mangle)]
-pub extern "C" fn cendrulas_digest(message: &[u8], out: &mut [u8]) -> u64
+pub fn cendrulas_digest(message: &[u8], out: &mut [u8]) -> u64
     ensures value { result ≡ answer (digest_refusal out.old) (sha256 message.now) }
     ensures out_after { out.new ≡ written_by (digest_refusal out.old) (sha256 message.now) out.old }
 {
@@ -34,8 +33,7 @@ fn keyed_refusal(n: usize, key: &[u8], room: usize) -> u8
     0
 }
 
-#[unsafe(no_mangle)]
-pub extern "C" fn cendrulas_tag(key: &[u8], message: &[u8], out: &mut [u8]) -> u64
+pub fn cendrulas_tag(key: &[u8], message: &[u8], out: &mut [u8]) -> u64
     ensures value { result ≡ answer (keyed_refusal_def tag_size key.now (length out.old)) (tag_of key.now message.now) }
     ensures out_after { out.new ≡ written_by (keyed_refusal_def tag_size key.now (length out.old))
         (tag_of key.now message.now) out.old }
@@ -49,8 +47,7 @@ pub extern "C" fn cendrulas_tag(key: &[u8], message: &[u8], out: &mut [u8]) -> u
     pack(0, 0, 0, hmac::TAG as u16)
 }
 
-#[unsafe(no_mangle)]
-pub extern "C" fn cendrulas_hmac(key: &[u8], message: &[u8], out: &mut [u8]) -> u64
+pub fn cendrulas_hmac(key: &[u8], message: &[u8], out: &mut [u8]) -> u64
     ensures value { result ≡ answer (keyed_refusal_def digest_size key.now (length out.old))
         (hmac_sha256 key.now message.now) }
     ensures out_after { out.new ≡ written_by (keyed_refusal_def digest_size key.now (length out.old))

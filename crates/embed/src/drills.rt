@@ -5,8 +5,7 @@ ghost use Rattle.embed.specs.Drills.{packed_drill};
 
 use super::pack::pack;
 
-#[unsafe(no_mangle)]
-pub extern "C" fn cendrulas_drill(sheet: &[u8], out: &mut [u8], work: &mut [u8]) -> u64
+pub fn cendrulas_drill(sheet: &[u8], out: &mut [u8], work: &mut [u8]) -> u64
     ensures { record { answer = result; output = out.new; work = work.new }
         ≡ packed_drill (drill_of sheet.now out.old work.old) }
 {

@@ -1,16 +1,16 @@
-// The library's functions for C and Rust, on numbers and slices only; include/cendrulas.h declares them.
+// The library's functions for C and Rust, on numbers and slices only; crate embed_c exports them, and include/cendrulas.h declares them.
 #![tactic(auto)]
 
-mod clients;
-mod coding;
-mod digests;
-mod drills;
+pub mod clients;
+pub mod coding;
+pub mod digests;
+pub mod drills;
 mod keys;
 mod pack;
-mod packets;
-mod plans;
-mod replies;
-mod rounds;
-mod servers;
-mod versions;
-mod weights;
+pub mod packets;
+pub mod plans;
+pub mod replies;
+pub mod rounds;
+pub mod servers;
+pub mod versions;
+pub mod weights;

@@ -5,8 +5,7 @@ ghost use Rattle.embed.specs.Packets.{packet_refusal};
 
 use super::pack::pack;
 
-#[unsafe(no_mangle)]
-pub extern "C" fn cendrulas_packet_check(packet: &[u8]) -> u64
+pub fn cendrulas_packet_check(packet: &[u8]) -> u64
     ensures { result ≡ packed (packet_refusal packet.now) 0 0 0 }
 {
     let wire::packet::PacketRead::Value(_) = wire::packet::read_packet(packet) else {

@@ -39,8 +39,7 @@ fn put_plan(plan: planner::PlanOutcome, numbers: &mut [usize])
     let _ = put_at(numbers, past_packets, &memory);
 }
 
-#[unsafe(no_mangle)]
-pub extern "C" fn cendrulas_plan(
+pub fn cendrulas_plan(
     t: usize,
     length: usize,
     readers: usize,

@@ -4,8 +4,7 @@ ghost use Rattle.embed.specs.Replies.{code_told};
 
 use super::pack::pack;
 
-#[unsafe(no_mangle)]
-pub extern "C" fn cendrulas_store_code(packet: &[u8]) -> u64
+pub fn cendrulas_store_code(packet: &[u8]) -> u64
     ensures { result ≡ code_told packet.now }
 {
     let wire::packet::PacketRead::Value(passed) = wire::packet::read_packet(packet) else {

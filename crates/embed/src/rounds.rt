@@ -57,8 +57,7 @@ fn round_of(call: protocol::Call) -> u8
     0
 }
 
-#[unsafe(no_mangle)]
-pub extern "C" fn cendrulas_client_round(state: &[u8]) -> u64
+pub fn cendrulas_client_round(state: &[u8]) -> u64
     ensures { result ≡ round_in state.now }
 {
     if state.len() != super::clients::CLIENT {

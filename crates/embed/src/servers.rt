@@ -12,8 +12,7 @@ ghost use Rattle.embed.specs.Servers.{served_out, take_by};
 
 use super::pack::{array, pack};
 
-#[unsafe(no_mangle)]
-pub extern "C" fn cendrulas_server_blank(memory: &mut [u8], t: usize, server: usize) -> u64
+pub fn cendrulas_server_blank(memory: &mut [u8], t: usize, server: usize) -> u64
     ensures value { result ≡ packed (blank_step memory.old t server).result.number 0 0 0 }
     ensures memory_after { memory.new ≡ (blank_step memory.old t server).memory }
 {
@@ -66,8 +65,7 @@ fn serve(memory: &mut [u8], key: [u8; cluster::KEY], packet: &[u8], out: &mut [u
     pack(o.number, result, 0, count as u16)
 }
 
-#[unsafe(no_mangle)]
-pub extern "C" fn cendrulas_server_take(
+pub fn cendrulas_server_take(
     memory: &mut [u8],
     key: &[u8],
     packet: &[u8],

@@ -9,8 +9,7 @@ const MINOR: u32 = 0;
 
 const PATCH: u32 = 0;
 
-#[unsafe(no_mangle)]
-pub extern "C" fn cendrulas_version() -> u32
+pub fn cendrulas_version() -> u32
     ensures { result ≡ version }
 {
     MAJOR * 0x1_0000 + MINOR * 0x100 + PATCH

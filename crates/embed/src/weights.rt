@@ -6,8 +6,7 @@ ghost use Rattle.embed.specs.Weights.{weights_out, weighed_by};
 
 use super::pack::{pack, put};
 
-#[unsafe(no_mangle)]
-pub extern "C" fn cendrulas_weights(
+pub fn cendrulas_weights(
     t: usize,
     servers: &[usize],
     used: &mut [u8],
@@ -49,8 +48,7 @@ fn rows_of(src: &[u8]) -> [u8; erasure::ROWS]
     rows
 }
 
-#[unsafe(no_mangle)]
-pub extern "C" fn cendrulas_restore_weighed(
+pub fn cendrulas_restore_weighed(
     t: usize,
     length: usize,
     rows: &[u8],

@@ -1,5 +1,5 @@
 // The bench cards that are run: a history that is full, and the lengths of a content.
-use libc::STDOUT_FILENO;
+use std::io;
 
 // Bytes of a fragment of the longest content at t = 1, and of its store: head, stamp, length, fragment, 4 digests, nonce digest, 4 tags.
 const FRAGMENT: usize = cluster::TOP_LENGTH / 2;
@@ -16,14 +16,9 @@ const STORE: usize = wire::sizes::HEAD
 const COMPLETE: usize = wire::sizes::HEAD + wire::sizes::STAMP + wire::sizes::NONCE + 4 * hmac::TAG;
 
 // A card's name, what was answered, and whether that is what the card says.
-fn show(name: &[u8], got: u64, card: u64) {
-    io::write_all(STDOUT_FILENO, name);
-    io::print_decimal(STDOUT_FILENO, got);
-    if got == card {
-        io::write_all(STDOUT_FILENO, b" right\n");
-    } else {
-        io::write_all(STDOUT_FILENO, b" wrong\n");
-    }
+fn show(rt: &impl Print, name: &str, got: u64, card: u64) -> io::Result<()> {
+    let told = if got == card { "right" } else { "wrong" };
+    println!(rt; "{name}{got} {told}")
 }
 
 // A packet's head by client 1 to server 1 at t = 1.
@@ -73,21 +68,21 @@ fn fill(memory: &mut [u8]) -> u64 {
 }
 
 // 32 stored: the next is answered 11, and a held stamp 10, be it the first or the last.
-fn history() {
+fn history(rt: &impl Print) -> io::Result<()> {
     let mut memory = [0u8; cluster::MEMORY];
     server::blank::blank(&mut memory, 1, 1);
-    show(b"stored: ", fill(&mut memory), 32);
-    show(b"store 33: ", answer(&mut memory, 33), 11);
-    show(b"store 1 again: ", answer(&mut memory, 1), 10);
-    show(b"store 32 again: ", answer(&mut memory, 32), 10);
+    show(rt, "stored: ", fill(&mut memory), 32)?;
+    show(rt, "store 33: ", answer(&mut memory, 33), 11)?;
+    show(rt, "store 1 again: ", answer(&mut memory, 1), 10)?;
+    show(rt, "store 32 again: ", answer(&mut memory, 32), 10)
 }
 
 // The bytes of the fragment that a store hands out: half of the longest content.
-fn handed() {
+fn handed(rt: &impl Print) -> io::Result<()> {
     let mut packet = [0u8; STORE];
     put_store(&mut packet, 1);
     let fragment = wire::packet::fragment(&packet);
-    show(b"fragment in a store: ", fragment.len() as u64, 512);
+    show(rt, "fragment in a store: ", fragment.len() as u64, 512)
 }
 
 // The server completes a write with a stamp of client 1, which it does without a test.
@@ -116,16 +111,17 @@ fn collected(memory: &mut [u8]) -> u64 {
 }
 
 // A blank server's candidate is blank, and a completed write's is not.
-fn candidates() {
+fn candidates(rt: &impl Print) -> io::Result<()> {
     let mut memory = [0u8; cluster::MEMORY];
     server::blank::blank(&mut memory, 1, 1);
     show(
-        b"blank server's candidate blank: ",
+        rt,
+        "blank server's candidate blank: ",
         collected(&mut memory),
         1,
-    );
+    )?;
     complete(&mut memory);
-    show(b"completed candidate blank: ", collected(&mut memory), 0);
+    show(rt, "completed candidate blank: ", collected(&mut memory), 0)
 }
 
 // What a new client, a writer, answers to the begin of a write of n bytes.
@@ -145,16 +141,16 @@ fn begun(n: usize) -> u64 {
 }
 
 // A content of no bytes is accepted (document 02, W-202; document 01's card has 6), as are one of a byte and the longest.
-fn lengths() {
-    show(b"length 0: ", begun(0), 0);
-    show(b"length 1: ", begun(1), 0);
-    show(b"length 1024: ", begun(1024), 0);
+fn lengths(rt: &impl Print) -> io::Result<()> {
+    show(rt, "length 0: ", begun(0), 0)?;
+    show(rt, "length 1: ", begun(1), 0)?;
+    show(rt, "length 1024: ", begun(1024), 0)
 }
 
 // Each card as a line.
-pub(crate) fn run() {
-    history();
-    lengths();
-    handed();
-    candidates();
+pub(crate) fn run(rt: &impl Print) -> io::Result<()> {
+    history(rt)?;
+    lengths(rt)?;
+    handed(rt)?;
+    candidates(rt)
 }

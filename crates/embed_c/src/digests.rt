@@ -1,0 +1,34 @@
+// The digest, the tag and the whole HMAC.
+ghost use Rattle.std.specs.Prelude.{◌≡◌, length};
+ghost use Rattle.sha256.specs.Sha256.{sha256};
+ghost use Rattle.hmac.specs.Hmac.{hmac_sha256, tag_of, tag_size};
+ghost use Rattle.protocol.specs.Values.{digest_size};
+ghost use Rattle.embed.specs.Packing.{answer, written_by};
+ghost use Rattle.embed.specs.Digests.{digest_refusal, keyed_refusal_def};
+
+#[unsafe(no_mangle)]
+pub extern "C" fn cendrulas_digest(message: &[u8], out: &mut [u8]) -> u64
+    ensures value { result ≡ answer (digest_refusal out.old) (sha256 message.now) }
+    ensures out_after { out.new ≡ written_by (digest_refusal out.old) (sha256 message.now) out.old }
+{
+    embed::digests::cendrulas_digest(message, out)
+}
+
+#[unsafe(no_mangle)]
+pub extern "C" fn cendrulas_tag(key: &[u8], message: &[u8], out: &mut [u8]) -> u64
+    ensures value { result ≡ answer (keyed_refusal_def tag_size key.now (length out.old)) (tag_of key.now message.now) }
+    ensures out_after { out.new ≡ written_by (keyed_refusal_def tag_size key.now (length out.old))
+        (tag_of key.now message.now) out.old }
+{
+    embed::digests::cendrulas_tag(key, message, out)
+}
+
+#[unsafe(no_mangle)]
+pub extern "C" fn cendrulas_hmac(key: &[u8], message: &[u8], out: &mut [u8]) -> u64
+    ensures value { result ≡ answer (keyed_refusal_def digest_size key.now (length out.old))
+        (hmac_sha256 key.now message.now) }
+    ensures out_after { out.new ≡ written_by (keyed_refusal_def digest_size key.now (length out.old))
+        (hmac_sha256 key.now message.now) out.old }
+{
+    embed::digests::cendrulas_hmac(key, message, out)
+}
