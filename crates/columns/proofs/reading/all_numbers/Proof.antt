@@ -3,7 +3,6 @@ use mathlib.Core.Path.{◌≡◌, ap, sym, ◌∙◌}
 use mathlib.Core.List.{List}
 use Prim.Native.Nat.{ℕ, ◌-◌}
 use native.Mathlib.Omega.{arith}
-use borrow.Author.Tests.{not-true, not-false}
 use Rattle.columns.specs.Columns.{numbers_in}
 use Rattle.columns.specs.Reads.{is_read}
 use Rattle.columns.proofs.Columnwise.{column_in, left, left_more, left_stops, left_none}

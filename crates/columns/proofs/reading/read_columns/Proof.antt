@@ -2,7 +2,6 @@
 use mathlib.Core.Path.{◌≡◌, sym, ◌∙◌}
 use native.Mathlib.Omega.{arith}
 use lib.ListN.{length}
-use borrow.Author.Tests.{not-true, not-false}
 use Rattle.columns.specs.Columns.{column_size}
 use Rattle.columns.proofs.Columnwise.{ragged, too_many, so-many, other_length, not_read, all_read}
 use Prim.Native.Nat.{◌*◌}

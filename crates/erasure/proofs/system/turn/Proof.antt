@@ -1,5 +1,4 @@
 -- The pivot's row begins as a unit row; then all rows are turned alike. Assumes nothing.
-use Rattle.gf256.specs.Gf.{inverse}
 use Rattle.erasure.proofs.Rows.{system_turned}
 use mathlib.Core.Path.{◌≡◌, refl, subst, ◌∙◌}
 use mathlib.Core.List.{List, []}
