@@ -65,12 +65,7 @@ fn serve(memory: &mut [u8], key: [u8; cluster::KEY], packet: &[u8], out: &mut [u
     pack(o.number, result, 0, count as u16)
 }
 
-pub fn cendrulas_server_take(
-    memory: &mut [u8],
-    key: &[u8],
-    packet: &[u8],
-    out: &mut [u8],
-) -> u64
+pub fn cendrulas_server_take(memory: &mut [u8], key: &[u8], packet: &[u8], out: &mut [u8]) -> u64
     ensures { record { answer = result; memory = memory.new; output = out.new }
         ≡ take_by memory.old key.now packet.now out.old }
 {

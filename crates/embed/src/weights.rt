@@ -6,12 +6,7 @@ ghost use Rattle.embed.specs.Weights.{weights_out, weighed_by};
 
 use super::pack::{pack, put};
 
-pub fn cendrulas_weights(
-    t: usize,
-    servers: &[usize],
-    used: &mut [u8],
-    rows: &mut [u8],
-) -> u64
+pub fn cendrulas_weights(t: usize, servers: &[usize], used: &mut [u8], rows: &mut [u8]) -> u64
     ensures { record { answer = result; used = used.new; rows = rows.new }
         ≡ weights_out t servers.now used.old rows.old }
 {
