@@ -16,7 +16,6 @@ use Rattle.protocol.specs.Client.{Hand, idle, clocking, storing, completing, col
 use Rattle.protocol.specs.Client.{higher}
 use Rattle.atomicity.specs.Lists.{In}
 use Rattle.atomicity.specs.Steps.{Stamped}
-use Rattle.atomicity.proofs.Counting.{share}
 use Rattle.atomicity.proofs.Model.{marks, tagged, share_for}
 use Rattle.atomicity.proofs.Setup.{Setup, Steps, StepOf, right, right_step, lat}
 use Rattle.atomicity.proofs.Genuine.{Revealed, revealed-up, Genuine, genuine-up}

@@ -5,7 +5,7 @@ use mathlib.Core.List.{List}
 use Prim.Native.Nat.{ℕ, ◌≤◌, ◌<◌}
 use lib.Dec.{T, leb, ltb, eqb}
 use lib.ListN.{length}
-use borrow.Author.Tests.{le-leb, lt-leb, eqb-true, ltb-false, not-false, not-true}
+use borrow.Author.Tests.{le-leb, lt-leb, eqb-true, ltb-false, not-false}
 use Rattle.protocol.specs.View.{kept_size}
 use Rattle.decide.specs.Listing.{usable}
 use Rattle.decide.specs.Decided.{decide_refusal_def}

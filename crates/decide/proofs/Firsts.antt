@@ -13,7 +13,7 @@ use Rattle.cluster.specs.Config.{shelf}
 use Rattle.cluster.proofs.Tests.{and_both}
 use Rattle.protocol.specs.Values.{Candidate, same_candidate, rank}
 use Rattle.protocol.specs.Primitives.{real}
-use Rattle.protocol.specs.Rules.{ByServer, keep, first, gather, leader, proven}
+use Rattle.protocol.specs.Rules.{ByServer, keep, first, gather, proven}
 use Rattle.protocol.specs.View.{marked, candidates_in, replies_in}
 use Rattle.protocol.proofs.Equal.{candidate-same, candidate-refl}
 use Rattle.decide.specs.Decided.{slot_of}

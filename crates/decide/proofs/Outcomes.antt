@@ -16,7 +16,7 @@ use Rattle.sha256.specs.Sha256.{sha256}
 use Rattle.format.specs.Format.{Bytes}
 use Rattle.protocol.specs.Values.{Candidate}
 use Rattle.protocol.specs.Primitives.{real}
-use Rattle.protocol.specs.Rules.{any, first, gather, live, leader, proven, choice, restored_by}
+use Rattle.protocol.specs.Rules.{any, first, gather, live, proven, choice, restored_by}
 use Rattle.format.specs.Reading.{over}
 use Rattle.protocol.specs.View.{marked, candidates_in, replies_in, reply_slot_of}
 use Rattle.protocol.specs.Packet.{share_size_def}

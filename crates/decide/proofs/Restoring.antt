@@ -15,7 +15,7 @@ use Rattle.cluster.specs.declared.Outcome.{Outcome}
 use Rattle.erasure.specs.Fragments.{fragment_size_def, Part, restored}
 use Rattle.format.specs.Format.{value2}
 use Rattle.protocol.specs.Values.{stamp_size}
-use Rattle.protocol.specs.Rules.{fits, highest}
+use Rattle.protocol.specs.Rules.{fits}
 use Rattle.format.specs.Reading.{over, bytes_at, put}
 use Rattle.protocol.specs.View.{share_of_size, share_at, replies_place, reply_slot, reply_slot_of}
 use Rattle.protocol.specs.Packet.{share_size_def}

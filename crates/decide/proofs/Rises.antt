@@ -12,7 +12,7 @@ use borrow.Author.Tests.{ltb-true, ltb-false, lt-ltb, le-leb, ne_eqb}
 use Rattle.cluster.specs.Config.{shelf}
 use Rattle.cluster.specs.Ranges.{within}
 use Rattle.erasure.specs.Fragments.{Part}
-use Rattle.protocol.specs.Rules.{ByServer, highest}
+use Rattle.protocol.specs.Rules.{ByServer}
 use Rattle.erasure.specs.Choice.{among, picked, first_different, parts_at}
 use Rattle.erasure.specs.Steps.{each}
 use Rattle.decide.specs.Steps.{servers_of_def, Rising}

@@ -1,6 +1,6 @@
 -- A drill sheet (document 01, "Drill sheets"): the numbers of its lines, and which lines are steps.
 use Rattle.std.specs.Prelude.{Bool, false, cond, ◌&&◌, List, ℕ, leb, ltb, eqb, get_or}
-use Rattle.std.proofs.Math.Option.{Option, none, some}
+use Rattle.std.proofs.Math.Option.{Option, some}
 use Rattle.cluster.specs.Ranges.{top_number}
 use Rattle.format.specs.Format.{guard}
 use Rattle.columns.specs.Lines.{Text}

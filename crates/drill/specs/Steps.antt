@@ -1,5 +1,5 @@
 -- The steps of a drill: protocol's own steps on bytes, on document 01's keys and nonces, and what a listing shows of each.
-use Rattle.std.specs.Prelude.{cond, not, List, [], ◌∷◌, ◌++◌, map, ℕ, suc, ◌+◌, eqb, length, get_or, replicate}
+use Rattle.std.specs.Prelude.{cond, not, List, [], ◌∷◌, ◌++◌, map, ℕ, suc, eqb, length, get_or, replicate}
 use Rattle.cluster.specs.Config.{up_to}
 use Rattle.cluster.specs.Ranges.{within, most_servers, top_writer, top_client, key_size, packet_room, content_room}
 use Rattle.cluster.specs.Refusals.{refuse, first_of, on_refusal}

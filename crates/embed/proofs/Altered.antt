@@ -3,7 +3,7 @@
 -- A memory's bytes are those of the record that it is, so that the same server has the same bytes. Assumes nothing.
 use mathlib.Core.Path.{◌≡◌, refl, sym, ap, ◌∙◌}
 use mathlib.Core.Bool.{true, false, cond, ◌&&◌, and-false}
-use mathlib.Core.List.{List, [], ◌∷◌, ◌++◌}
+use mathlib.Core.List.{List, [], ◌∷◌}
 use mathlib.Core.Logic.{◌⊎◌, inl, inr, ◌≢◌}
 use mathlib.Core.Option.{Option, none, some}
 use Prim.Native.Nat.{ℕ, zero, suc, ◌+◌, ◌*◌, ◌<◌}
@@ -15,14 +15,14 @@ use Rattle.cluster.specs.Config.{Config, shelf}
 use Rattle.cluster.specs.Ranges.{memory_size, capacity}
 use Rattle.cluster.specs.Refusals.{on_refusal}
 use Rattle.cluster.proofs.Tests.{untrue}
-use Rattle.format.specs.Format.{Bytes, such, via, seq, byte, number4, or_blank, many}
+use Rattle.format.specs.Format.{Bytes, such, via, seq, byte, number4, or_blank}
 use Rattle.protocol.specs.Values.{Candidate, Write, rank, below, is_some, same_list}
 use Rattle.protocol.specs.Packet.{Packet, Body, stamp_f, candidate_f, any_candidate_f, decode}
 use Rattle.protocol.specs.Packet.{clock, clock_reply, store, store_reply, complete, complete_reply}
 use Rattle.protocol.specs.Packet.{collect, collect_reply, filter, filter_reply, repair, repair_reply}
 use Rattle.protocol.specs.Memory.{Memory, memory_f, decode_memory, encode_memory, lookup, latest_place}
 use Rattle.protocol.specs.Primitives.{Primitives}
-use Rattle.protocol.specs.Server.{Server, Acted, memory_of, raise, on_store_def, valid, best, act, server_refusal}
+use Rattle.protocol.specs.Server.{Server, Acted, memory_of, raise, on_store_def, valid, act, server_refusal}
 use Rattle.protocol.proofs.ServerStep.{Stepped, answered, server_step}
 use Rattle.protocol.specs.ServerBytes.{server_in, turned_down_def, acted_on, server_take}
 use Rattle.protocol.specs.View.{stamp_at_def}
@@ -32,7 +32,7 @@ use Rattle.protocol.proofs.Equal.{same_refl, same_true}
 use Rattle.format.proofs.Formats.{value4-print}
 use Rattle.protocol.proofs.Memories.{fields, decode-memory-ok, encode-decode-memory}
 use Rattle.protocol.proofs.Ranks.{below-rank}
-use Rattle.protocol.proofs.ServerLift.{Holds, Lifted, serve_lift}
+use Rattle.protocol.proofs.ServerLift.{Holds, serve_lift}
 use Rattle.server.specs.Answers.{count_place}
 use Rattle.embed.specs.Servers.{changed}
 

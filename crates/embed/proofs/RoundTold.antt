@@ -12,7 +12,7 @@ use lib.ListN.{length, get_or}
 use borrow.Author.Tests.{eq-eqb, ne_eqb}
 use Rattle.cluster.specs.Ranges.{within, most_servers}
 use Rattle.cluster.specs.Refusals.{wrong_size}
-use Rattle.cluster.proofs.Tests.{within_in, within_low, within-high}
+use Rattle.cluster.proofs.Tests.{within_in, within-high}
 use Rattle.protocol.specs.declared.Call.{Call}
 use Rattle.protocol.specs.Rules.{ByServer, count_to}
 use Rattle.protocol.specs.View.{marked}

@@ -2,7 +2,7 @@
 -- past a liar. What each exchange does is computed, but for the tests of tags and digests, which the modules Scene and SceneRead know.
 -- Assumes nothing.
 use mathlib.Core.Path.{◌≡◌, refl, ap, ◌∙◌}
-use mathlib.Core.Bool.{Bool, true, cond, ◌&&◌}
+use mathlib.Core.Bool.{Bool, true, cond}
 use mathlib.Core.List.{List, [], ◌∷◌}
 use mathlib.Core.Option.{Option, none, some}
 use Prim.Native.Nat.{ℕ}
@@ -28,7 +28,7 @@ use Rattle.example.proofs.TakeSteps.{took}
 use Rattle.example.proofs.CallSteps.{began, left}
 use Rattle.example.proofs.Talks.{Talk, talk_of}
 use Rattle.example.proofs.Lies.{Lie, lie_of}
-use Rattle.example.proofs.Scene.{content1, label1, content2, pieces, cand, share, stored, spoilt, holding, blank_one, stamp-checks, held_own}
+use Rattle.example.proofs.Scene.{content1, label1, content2, pieces, cand, stored, spoilt, holding, blank_one, stamp-checks, held_own}
 use Rattle.example.proofs.Scene.{best-held, best-tagged, valid-held}
 use Rattle.example.proofs.SceneRead.{gathered, knows, judged_is, sifted}
 use Rattle.example.proofs.SceneBytes.{stamp-bytes, cand-bytes, share-bytes, spoilt-bytes, spoilt-ok}

@@ -3,7 +3,7 @@
 -- made up. The run meets the premises.
 -- Assumes nothing.
 use mathlib.Core.Path.{◌≡◌, refl, sym, ap, subst}
-use mathlib.Core.Bool.{Bool, true, false, cond, ◌&&◌}
+use mathlib.Core.Bool.{Bool, true, false, cond}
 use mathlib.Core.List.{List, [], ◌∷◌, map, flat_map}
 use mathlib.Core.Option.{none, some}
 use mathlib.Core.Logic.{◌⊎◌, inl, inr}
@@ -29,7 +29,7 @@ use Rattle.example.proofs.Printed.{bytes_of, bytes_ok, packet-bytes}
 use Rattle.example.proofs.ServeSteps.{Serves, serving, play-serve}
 use Rattle.example.proofs.CallSteps.{writing, play_write, gives_up, play_give-up}
 use Rattle.example.proofs.Talks.{exchanged, play_exchange}
-use Rattle.example.proofs.Scene.{content2, cand, share, stored, made_up, holding, stamp-checks, best-made-up}
+use Rattle.example.proofs.Scene.{content2, cand, stored, made_up, holding, stamp-checks, best-made-up}
 use Rattle.example.proofs.SceneBytes.{wild_packet, wild-bytes, wild-ok}
 use Rattle.example.proofs.SceneWrites.{ours, goes, w0, w1, w2, w3, w4, w5, w6, w7, w8, w9, w10}
 use Rattle.example.proofs.SceneReads.{two, w11, w12, w13, w14, reads}

@@ -1,7 +1,7 @@
 -- Client 1's write, step by step: the run up to its end meets the premises, its tags have been made and its nonce shown.
 -- Assumes nothing.
 use mathlib.Core.Path.{◌≡◌, refl, sym, ap, ◌∙◌, subst}
-use mathlib.Core.Bool.{Bool, true, false, cond, ◌&&◌}
+use mathlib.Core.Bool.{Bool, false, cond}
 use mathlib.Core.List.{List, [], ◌∷◌, flat_map}
 use mathlib.Core.Option.{Option, none, some}
 use mathlib.Core.Logic.{inl, inr}
@@ -23,7 +23,7 @@ use Rattle.atomicity.specs.Steps.{all_digested, stamped_from, stamped_by, tags_w
 use Rattle.atomicity.specs.Premises.{Shows}
 use Rattle.atomicity.specs.Claim.{Logged, log, change}
 use Rattle.atomicity.proofs.Model.{Run, perform, now}
-use Rattle.example.proofs.Playing.{Hashing, s, A, nonce1, Shown, Made, Play}
+use Rattle.example.proofs.Playing.{Hashing, s, nonce1, Shown, Made, Play}
 use Rattle.example.proofs.Printed.{bytes_of, bytes_ok}
 use Rattle.example.proofs.ServeSteps.{makes_it, sent-ok, made-sent, packet_buffer}
 use Rattle.example.proofs.CallSteps.{writing, play_write}

@@ -14,7 +14,7 @@ use Rattle.format.specs.Format.{Bytes}
 use Rattle.protocol.specs.Packet.{Packet, PacketOk, kind_of, encode, decode}
 use Rattle.protocol.specs.Rules.{upd}
 use Rattle.protocol.specs.Client.{Client, Turn, refused, accepted, take_refusal, take_step, turn_on, high_at, awaits, in_complete}
-use Rattle.runs.specs.Runs.{Lent, write, take-reply}
+use Rattle.runs.specs.Runs.{Lent, take-reply}
 use Rattle.protocol.proofs.Bodies.{decode-encode}
 use Rattle.runs.proofs.ValueRuns.{World, After, do_values, set_client, now_values}
 use Rattle.atomicity.specs.Lists.{All}

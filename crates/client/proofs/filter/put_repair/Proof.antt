@@ -2,7 +2,6 @@
 use borrow.Author.Rules.{rules}
 use native.Mathlib.Omega.{arith}
 use mathlib.Core.Path.{◌∙◌}
-use Rattle.format.specs.Reading.{bytes_at}
 use Rattle.client.proofs.Repairs.{repair_put, name-fits, tags_fit}
 use Rattle.client.proofs.filter.put_repair.Statement.{statement}
 use Rattle.client.proofs.filter.put_repair.Tie as tie

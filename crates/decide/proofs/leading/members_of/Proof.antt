@@ -8,7 +8,6 @@ use lib.ListN.{length, take, length-set}
 use lib.Seq.{take_all}
 use borrow.Author.Rules.{rules}
 use Rattle.cluster.specs.Config.{shelf}
-use Rattle.protocol.specs.Rules.{agrees}
 use Rattle.decide.specs.declared.leading.Members.{Members}
 use Rattle.decide.specs.Steps.{servers_of_def, agrees_at_def, members_at, MembersAs}
 use Rattle.decide.proofs.Counted.{bit_le, servers_first, servers_step}

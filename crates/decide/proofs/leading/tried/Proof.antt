@@ -4,7 +4,6 @@ use mathlib.Core.Bool.{cond}
 use Prim.Native.Nat.{suc}
 use borrow.Author.Rules.{rules}
 use Rattle.cluster.specs.Config.{shelf}
-use Rattle.protocol.specs.Rules.{leader}
 use Rattle.protocol.specs.View.{candidates_in}
 use Rattle.decide.specs.Listing.{enters}
 use Rattle.decide.specs.Steps.{leader_at, tried_at}

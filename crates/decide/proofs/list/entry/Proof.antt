@@ -11,7 +11,6 @@ use borrow.Author.Tests.{eqb-true, eqb-false}
 use Rattle.cluster.specs.Config.{shelf}
 use Rattle.format.specs.Format.{Bytes}
 use Rattle.protocol.specs.Values.{same_candidate, is_blank_def}
-use Rattle.protocol.specs.Rules.{fits}
 use Rattle.protocol.specs.View.{candidate_slot, candidates_place, candidates_in}
 use Rattle.decide.specs.Steps.{rank_at, blank_rank}
 use Rattle.decide.proofs.Ranks.{low-rank, high-rank, candidate-rank, candidate-writer}

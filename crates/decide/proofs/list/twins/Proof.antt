@@ -3,7 +3,6 @@ use mathlib.Core.Path.{◌∙◌}
 use native.Mathlib.Omega.{arith}
 use borrow.Author.Rules.{rules}
 use Rattle.cluster.specs.Config.{shelf}
-use Rattle.protocol.specs.Rules.{fits}
 use Rattle.decide.proofs.Places.{part_of, same_slots}
 use Rattle.decide.proofs.list.twins.Statement.{statement}
 use Rattle.decide.proofs.list.twins.Tie as tie

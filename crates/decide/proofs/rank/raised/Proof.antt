@@ -3,7 +3,7 @@ use native.Mathlib.Omega.{arith}
 use borrow.Author.Rules.{rules}
 use borrow.Author.Tests.{lt-ltb, le-ltb}
 use Rattle.cluster.specs.Config.{shelf}
-use Rattle.decide.specs.Steps.{stays, raised}
+use Rattle.decide.specs.Steps.{raised}
 use Rattle.decide.proofs.Ranks.{candidate-rank}
 use Rattle.decide.proofs.rank.raised.Statement.{statement}
 use Rattle.decide.proofs.rank.raised.Tie as tie

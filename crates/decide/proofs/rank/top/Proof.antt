@@ -6,7 +6,7 @@ use native.Mathlib.Numerals.{add-one}
 use native.Mathlib.Omega.{arith}
 use borrow.Author.Rules.{rules}
 use Rattle.cluster.specs.Config.{shelf}
-use Rattle.decide.specs.Steps.{raised, top_rank, top_at}
+use Rattle.decide.specs.Steps.{top_rank, top_at}
 use Rattle.decide.proofs.rank.top.Statement.{statement}
 use Rattle.decide.proofs.rank.top.Tie as tie
 

@@ -1,7 +1,7 @@
 -- `decide::intact_at` meets its contract: the slot is borrowed whole. Nothing is assumed.
 use mathlib.Core.Path.{sym, ◌∙◌, subst}
 use native.Mathlib.Omega.{arith}
-use Rattle.decide.specs.Steps.{intact, slot_held, Full}
+use Rattle.decide.specs.Steps.{slot_held, Full}
 use Rattle.decide.proofs.Arguments.{few}
 use Rattle.decide.proofs.Replies.{lent_length, slot_lent}
 use Rattle.decide.proofs.reply.intact_at.Statement.{statement}

@@ -7,11 +7,10 @@ use Prim.Native.Nat.{ℕ, ◌+◌, ◌*◌}
 use native.Mathlib.Omega.{arith}
 use lib.ListN.{get_or}
 use borrow.Author.Rules.{rules}
-use borrow.Author.Tests.{not-true, not-false, eq-eqb, ne_eqb}
+use borrow.Author.Tests.{eq-eqb, ne_eqb}
 use Rattle.cluster.specs.Config.{shelf}
 use Rattle.erasure.specs.Fragments.{fragment_size_def}
 use Rattle.protocol.specs.Values.{same_list, same_stamp, stamp_size, digest_size, digests_size_def}
-use Rattle.protocol.specs.Rules.{fits}
 use Rattle.protocol.specs.View.{stamp_at_def, candidate_at}
 use Rattle.format.specs.Reading.{bytes_at}
 use Rattle.decide.specs.Steps.{Full}

@@ -5,7 +5,7 @@ use native.Mathlib.Omega.{arith}
 use lib.ListN.{length}
 use Rattle.cluster.specs.Config.{shelf}
 use Rattle.protocol.specs.View.{candidate_slot, candidates_place}
-use Rattle.decide.specs.Steps.{names, slot_held}
+use Rattle.decide.specs.Steps.{slot_held}
 use Rattle.decide.proofs.Places.{part_length, part_of, candidate_in_lem}
 use Rattle.decide.proofs.Replies.{lent_length, slot_lent}
 use Rattle.decide.proofs.reply.names_at.Statement.{statement}

@@ -1,7 +1,6 @@
 -- Its five numbers, if it was read. Assumes nothing.
 use mathlib.Core.Path.{refl}
 use lib.ListN.{replicate}
-use borrow.Author.Tests.{not-true, not-false}
 use borrow.Author.Rules.{rules}
 use Rattle.columns.specs.Lines.{line_at}
 use Rattle.drill.specs.Sheet.{fields_of}

@@ -3,7 +3,7 @@ use mathlib.Core.Path.{◌∙◌, sym, ap}
 use mathlib.Core.List.{List}
 use Prim.Native.Nat.{ℕ}
 use native.Mathlib.Omega.{arith}
-use lib.ListN.{drop, get_or}
+use lib.ListN.{get_or}
 use lib.Seq.{get_or-drop}
 use Rattle.protocol.specs.Packet.{head_size}
 use borrow.Author.Rules.{rules}

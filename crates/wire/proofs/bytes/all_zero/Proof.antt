@@ -9,7 +9,6 @@ use Rattle.format.specs.Format.{zeros}
 use Rattle.wire.proofs.Joined.{chunk-zero, chunk-other}
 use Rattle.wire.proofs.bytes.all_zero.Statement.{statement}
 use Rattle.wire.proofs.bytes.all_zero.Tie as tie
-use borrow.Author.Tests.{not-true, not-false}
 
 abbrev invariant-loop : tie.invariant-loop-at
 invariant-loop s at₀ at = (at ≤ length s) × (zeros s ≡ zeros (drop at s))

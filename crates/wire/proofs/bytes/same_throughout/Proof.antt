@@ -1,6 +1,5 @@
 -- The loop joins the differences of all bytes: what is joined so far is 0 and the rests are the same exactly when the lists are.
 -- Assumes nothing.
-use borrow.Author.Rules.{rules}
 use mathlib.Core.Path.{◌≡◌, refl, sym, ◌∙◌}
 use mathlib.Core.Bool.{◌&&◌}
 use Prim.Native.Nat.{◌≤◌, ◌-◌}

@@ -2,7 +2,6 @@
 -- Assumes nothing.
 use borrow.Author.Rules.{rules}
 use Rattle.protocol.specs.View.{share_at, share_of_size}
-use Rattle.format.specs.Reading.{bytes_at}
 use Rattle.wire.proofs.packet.share_fragment.Statement.{statement}
 use Rattle.wire.proofs.packet.share_fragment.Tie as tie
 

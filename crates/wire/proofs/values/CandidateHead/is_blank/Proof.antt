@@ -5,7 +5,6 @@ use Rattle.protocol.specs.Values.{blank_stamp, same_list, same_stamp}
 use Rattle.wire.specs.declared.values.CandidateHead.{CandidateHead}
 use Rattle.wire.specs.Places.{blank_head, same_head}
 use borrow.Author.Rules.{rules}
-use borrow.Author.Tests.{not-true, not-false}
 use Rattle.wire.proofs.values.CandidateHead.is_blank.Statement.{statement}
 use Rattle.wire.proofs.values.CandidateHead.is_blank.Tie as tie
 
