@@ -1,7 +1,8 @@
 # What ./drill, ./incident and host/library share; they source it. $root is the repository, $me the program's name in messages.
 # Standard error gets one line that says how far a build is; details go to target/build.log, which a failure names.
 log=$root/target/build.log
-proved=$root/target/staticlib/libembed.a # written by rt whenever the library is proved
+exports=$root/crates/embed_c # the static library's crate
+proved=$exports/out/libembed_c.a # written by rt whenever the library is proved
 library=$root/target/staticlib/libcendrulas.a # the same under the name that ships
 
 # Seconds that each crate took on two cores. The time left is scaled by how long this machine has taken so far.
@@ -22,10 +23,11 @@ line_ends() {
     [[ ! -t 2 ]] || printf '\r\e[K' >&2
 }
 
-# older FILE PLACE..: whether the file is missing or older than a source in these places. A changed text or wrong program makes nothing older.
+# older FILE PLACE..: whether the file is missing or older than a source in these places. A changed text or wrong program makes nothing older, nor does
+# what rt keeps in a crate's out/.
 older() {
     local sources=(-name '*.rt' -o -name '*.antt' -o -name '*.rs' -o -name '*.toml' -o -name '*.lock' -o -name crates.txt)
-    [[ ! -e $1 ]] || [[ -n $(find "${@:2}" -type f \( "${sources[@]}" \) -newer "$1" -print -quit) ]]
+    [[ ! -e $1 ]] || [[ -n $(find "${@:2}" -type d -name out -prune -o -type f \( "${sources[@]}" \) -newer "$1" -print -quit) ]]
 }
 
 # What a build needs, tested before minutes of proving: the tools, a C compiler that links, and a tree that can be written.
@@ -42,9 +44,9 @@ can_build() {
     rm -f "$root/target/linked"
 }
 
-# The crates that the library needs, by crates.txt, itself last.
-library_crates() {
-    awk 'function visit(c,   i, n, w) {
+# The crates that a crate needs, by crates.txt, itself last.
+needed() {
+    awk -v last="$1" 'function visit(c,   i, n, w) {
              if (c in seen || !(c in needs)) return
              seen[c] = 1
              n = split(needs[c], w, " ")
@@ -52,8 +54,8 @@ library_crates() {
              print c
          }
          { sub(/#.*/, "") }
-         split($0, part, ":") == 2 { gsub(/[ \t]/, "", part[1]); needs[part[1]] = part[2] }
-         END { visit("embed") }' "$root/crates.txt"
+         split($0, part, ":") == 2 { split(part[1], name, " "); needs[name[1]] = part[2] }
+         END { visit(last) }' "$root/crates.txt"
 }
 
 # minutes SPENT DUE LEFT: the time left in words, where so many seconds were spent on crates that usually take DUE.
@@ -66,32 +68,40 @@ minutes() {
     esac
 }
 
-# Reads what rt says and tells which crate is at work.
+# Reads what rt says and tells which crate is at work. rt says of a crate how much it checked once the crate is done, and nothing of those that it
+# has kept; where a crate is done, so are all that it needs.
 progress() {
-    local crates total=0 at=1 spent=0 due=0 left=0 crate text
-    crates=" $(library_crates | tr '\n' ' ')"
+    local crates open total=0 done=0 spent=0 due=0 left=0 crate below text last now
+    crates=$(needed embed_c)
     for crate in $crates; do
         total=$((total + 1)) left=$((left + ${usual[$crate]-$new_crate}))
     done
+    open=" $(echo $crates) " last=$(date +%s)
     line "crate 1 of $total, $(minutes 0 0 $left)"
     while IFS= read -r text; do
-        [[ $text =~ ^rt:\ ([a-z0-9_]+)\ proved\ \((([0-9]+)\ s)? && $crates == *" ${BASH_REMATCH[1]} "* ]] || continue
-        crate=${BASH_REMATCH[1]} at=$((at + 1)) left=$((left - ${usual[$crate]-$new_crate}))
-        if [[ -n ${BASH_REMATCH[3]} ]]; then
-            spent=$((spent + BASH_REMATCH[3])) due=$((due + ${usual[$crate]-$new_crate}))
+        [[ $text =~ ^crate\ ([a-z0-9_]+):\ .*checked=([0-9]+)$ && $open == *" ${BASH_REMATCH[1]} "* ]] || continue
+        crate=${BASH_REMATCH[1]} now=$(date +%s)
+        if [[ ${BASH_REMATCH[2]} != 0 ]]; then
+            spent=$((spent + now - last)) due=$((due + ${usual[$crate]-$new_crate}))
         fi
-        [[ $at -gt $total ]] || line "crate $at of $total, $(minutes $spent $due $left)"
+        last=$now
+        for below in $(needed "$crate"); do
+            [[ $open == *" $below "* ]] || continue
+            open=${open/ $below / } done=$((done + 1)) left=$((left - ${usual[$below]-$new_crate}))
+        done
+        [[ $done == "$total" ]] || line "crate $((done + 1)) of $total, $(minutes $spent $due $left)"
     done
     line_ends
 }
 
 # Proves and builds the library. One that comes out the same stays as it is, so that nothing is linked anew.
 build_library() {
-    if ! (cd "$root" && rt staticlib embed 2>&1 < /dev/null | tee "$log" | progress); then
-        grep -E '^rt: .*NOT PROVED' "$log" | head -n 1 >&2 || true
+    if ! (cd "$exports" && rt lib 2>&1 < /dev/null | tee "$log" | progress); then
+        grep -E '^fn .*: (not proved|no proof)' "$log" | head -n 1 | cut -c 1-300 >&2 || true
         say "the library is not built: target/build.log has the details"
         return 1
     fi
+    mkdir -p "$(dirname "$library")"
     cmp -s "$proved" "$library" || { cp "$proved" "$library.new" && mv "$library.new" "$library"; }
 }
 
