@@ -11,19 +11,24 @@ from trying import ROOT, crate_lines, read_edit
 FUNCTION = re.compile(r"^( *)pub (?:extern \"C\" )?fn (\w+)\(.*?^\1\}$", re.M | re.S)
 GHOST = re.compile(r"^ghost use (Rattle\S+?)\.\{(.*?)\};", re.M)
 TYPE = re.compile(r"^impl (\w+) \{", re.M)
-USE = re.compile(r"^(?:pub )?use ([\w:]+);", re.M)
+USE = re.compile(r"^(?:pub )?use ([\w:]+?)(?:::\{([^}]*)\})?;", re.M)
 CALL = re.compile(r"(?:(\.)|(?<!fn )(?<![\w:.]))((?:\w+::)*)(\w+)\(")
 # Document 01's form for a client's call in hand: programs lend parts of one run of bytes and call what these hand on to.
 FOR_CALLERS = {f"client::{name}" for name in ("begin_write", "begin_read", "take", "give_up", "make")}
+# Whole tables for many look-ups, and how many candidates kept bytes list: our own code looks up one at a time, and sees the count in what it writes.
+FOR_CALLERS |= {"gf256::logarithms::powers", "gf256::logarithms::logs", "decide::count_listed"}
 
 
 def cited(text, promise):
     """The definitions of the repository that a promise names, each with its file."""
     found = []
     for module, names in GHOST.findall(text):
-        crate, file = re.match(r"Rattle·(\w+)(?:·specs)?\.(?:specs\.)+(.*)", module).groups()
+        ours = re.match(r"Rattle\.(\w+)\.specs\.(.*)", module)
+        if not ours or ours.group(1) not in crate_lines():
+            continue
+        crate, file = ours.groups()
         for name in (n.strip().split(" as ") for n in names.split(",")):
-            if re.search(rf"(?<![\w·.]){re.escape(name[-1])}(?![\w-])", promise):
+            if re.search(rf"(?<![\w.]){re.escape(name[-1])}(?![\w-])", promise):
                 found.append(f"`{name[0]}` ({crate}/{file.replace('.', '/')})")
     return found
 
@@ -46,10 +51,13 @@ def calls():
         crate, text = file.parts[-3], file.read_text()
         here = [crate] if file.stem in ("lib", "main") else [crate, file.stem]
         known = {}
-        for path in USE.findall(text):
+        for path, names in USE.findall(text):
             parts = path.split("::")
-            start = {"crate": [crate], "super": here[:-1], "self": here}.get(parts[0], parts[:1])
-            known[parts[-1]] = start + parts[1:]
+            start = {"crate": [crate], "super": here[:-1], "self": here}.get(parts[0], parts[:1]) + parts[1:]
+            for name in filter(None, (name.strip() for name in names.split(","))):
+                known[name] = [*start, name]
+            if not names:
+                known[start[-1]] = start
         for match in CALL.finditer(text):
             method, path, name = match.groups()
             parts = [*path.split("::")[:-1], name]

@@ -14,10 +14,16 @@ import subprocess
 ROOT = pathlib.Path(__file__).resolve().parent.parent
 PARTS = ("src", "specs", "proofs")
 KEY = re.compile(r"(file|old|new):(?: (.*)|)$")
-# an error, also of a proof that the prover made itself of a function that has no proof file
-ERROR = re.compile(r"(?:note: what antt said of a `search` in the proof that rattle made: )?(\S+?):(\d+):\d+: (error: )?(.*)")
+# an error in a file; and a goal of a function without a proof file that the prover's own search did not reach, at its place in the code
+ERROR = re.compile(r"(\S+?):(\d+):\d+: error: (.*)")
+OPEN = re.compile(r"note: (\S+?):(\d+):\d+: (it is not proved that .* \(`([^`]+)`\).*)")
+# after goals that were not reached: the function's proof files; and what such a goal says
+FILES_DUE = re.compile(r"fn \S+: no proof: expected answers in \./proofs/(\S+)/Answers\.antt")
+GOAL = re.compile(r"note: `([^`]+)` of proofs/(\S+)/Answers\.antt must prove: (.*)")
 # an error that only passes an earlier one on
-FOLLOWS = ("was not admitted (", "cannot be unfolded because it was not admitted")
+FOLLOWS = re.compile(r"\d+ declarations? that depends? on `([^`]*)`, which was (?:rejected|not admitted), (?:was|were) not checked: (.*)")
+# a name, a file or the syntax: nothing is said of a fact then
+UNREAD = re.compile(r"is not in scope|has no field|has no `[^`]*`|is no name|operand is missing|expected the end|cannot continue")
 
 
 class Wrong(Exception):
@@ -27,11 +33,11 @@ class Wrong(Exception):
 def crate_lines():
     """The lines of crates.txt, by crate."""
     lines = (line.split("#")[0].rstrip() for line in (ROOT / "crates.txt").read_text().splitlines())
-    return {line.partition(":")[0].strip(): line for line in lines if ":" in line}
+    return {line.partition(":")[0].split()[0]: line for line in lines if ":" in line}
 
 
 def needed(crate):
-    """The lines of crates.txt that a crate needs, by crate, as they stand: rt takes a changed line for a changed crate."""
+    """The lines of crates.txt that a crate needs, by crate, as they stand."""
     lines = crate_lines()
     seen = set()
 
@@ -71,23 +77,33 @@ def read_edit(path):
     return comment, pairs
 
 
+def link(source, target):
+    """A second name for what was checked, which the prover replaces and never writes into, and a copy of every other file."""
+    try:
+        if source.endswith(".oantt"):
+            return os.link(source, target)
+    except OSError:
+        pass
+    return shutil.copy2(source, target)
+
+
+def kept(source, target):
+    """Gives a crate's out/ a folder of another's, where there is one: what a check kept, or the library that was built."""
+    if source.is_dir():
+        shutil.rmtree(target, ignore_errors=True)
+        target.parent.mkdir(parents=True, exist_ok=True)
+        shutil.copytree(source, target, copy_function=link)
+
+
 def copy_of(crates, work):
-    """The needed crates in the folder work, with what is proved of them."""
+    """The needed crates in the folder work, with their libraries as they are built here."""
     (work / "crates.txt").write_text("".join(line + "\n" for line in crates.values()))
     for name in crates:
+        source, target = ROOT / "crates" / name, work / "crates" / name
         for part in PARTS:
-            source = ROOT / "crates" / name / part
-            if source.is_dir():
-                shutil.copytree(source, work / "crates" / name / part)
-    for folder, ending in (("rlib", ".rlib"), ("stamp", "")):
-        (work / "target" / folder).mkdir(parents=True)
-        for name in crates:
-            source = ROOT / "target" / folder / (name + ending)
-            target = work / "target" / folder / (name + ending)
-            if source.is_dir():
-                shutil.copytree(source, target)
-            elif source.is_file():
-                shutil.copy(source, target)
+            if (source / part).is_dir():
+                shutil.copytree(source / part, target / part)
+        kept(source / "out" / "rlib", target / "out" / "rlib")
 
 
 def apply(pairs, folder):
@@ -102,11 +118,21 @@ def apply(pairs, folder):
         path.write_text(text.replace(old, new))
 
 
-def rt(work, *words):
+def rt(folder, *words):
     """Runs rt in a folder: its status, and what it said."""
-    env = dict(os.environ, RT_JOBS="1", RT_CUT="0")
-    run = subprocess.run(["rt", *words], cwd=work, env=env, stdout=subprocess.PIPE, stderr=subprocess.STDOUT, text=True)
+    run = subprocess.run(["rt", *words], cwd=folder, stdin=subprocess.DEVNULL, stdout=subprocess.PIPE, stderr=subprocess.STDOUT, text=True)
     return run.returncode, run.stdout
+
+
+def check(work, crate):
+    """Checks a crate of the folder work, and builds the libraries below it that changed: the status, and what was said."""
+    return rt(work / "crates" / crate, "check", "--jobs", "1")
+
+
+def at_a_time():
+    """How many checks go side by side here: one for each processor, and 4 GB of memory for each."""
+    pages = os.sysconf("SC_PHYS_PAGES") * os.sysconf("SC_PAGE_SIZE")
+    return max(1, min(os.cpu_count() or 1, pages // (4 << 30)))
 
 
 def is_refusal(status, said):
@@ -126,34 +152,55 @@ def fact_of(text, most=400):
     if said:
         short = min(said, key=len)
         return f"expected there {part.group(1)}, found {part.group(2)}" if part and len(short) > most else short
-    if text.startswith("`omega`: the goal does not follow"):
-        return re.sub(r"\. It read .*", ".", text)
+    if re.match(r"`(omega|grind)`: the goal does not follow", text):
+        return re.sub(r"(?<=\.) It read .*", "", text)
     left = re.search(r"what it leaves must be a path whose two ends are equal, and (`[^`]*`) is none", text)
     if left:
         return f"no path between equal ends: {left.group(1)}"
     sides = re.search(r"the two sides (?:first )?differ (?:only )?where one has (`[^`]*`) \(left\).*? and the other has (`[^`]*`) \(right\)", text)
-    sides = sides or re.search(r"before the equations had joined (`[^`]*`) to (`[^`]*`)", text)
+    sides = sides or re.search(r"(?:the equations do not join|before the equations had joined) (`[^`]*`) to (`[^`]*`)", text)
     if sides:
         return f"not joined: {sides.group(1)} and {sides.group(2)}"
+    other = re.match(r"(`[^`]*`) ≟ (`[^`]*`): does not hold", text)
+    if other:
+        return f"{other.group(1)} is not {other.group(2)}"
     sought = re.search(r"the first part of which no proof was found is `[^`]*`, (`[^`]*`)", text, re.I) or re.match(r"`search`: no proof of (`[^`]*`)", text)
     return f"no proof of {sought.group(1)} was found" if sought else ""
 
 
-def refusals(said, folder):
-    """The errors that follow from no other: (file, line, lemma, fact, whole text), and the names of all that were refused."""
+def errors(said):
+    """All errors that follow from no other, as (file, line, lemma, text, fact), and the names of all that were refused. A goal that the prover's own
+    search did not reach counts as an error in the code: its lemma is the goal's name, and its fact what the goal says."""
     first, names, lines = [], set(), said.splitlines()
+    goals = {m.group(1, 2): m.group(3) for m in map(GOAL.match, lines) if m}
     for at, line in enumerate(lines):
-        m = ERROR.match(line)
-        if not m or m.group(4).startswith("note: ") or not (m.group(3) or line.startswith("note: ")):
-            continue
-        more = itertools.takewhile(lambda text: text.startswith("  "), lines[at + 1 :])
-        text = " ".join([m.group(4), *(t.strip() for t in more)])
-        name = re.match(r"`([^`]*)`: (.*)", text)
-        lemma, text = name.groups() if name else ("", text)
-        names.add(lemma)
-        if not any(f in text for f in FOLLOWS):
-            first.append((os.path.relpath(m.group(1), folder.resolve()), int(m.group(2)), lemma, fact_of(text), text))
+        error, goal = ERROR.match(line), OPEN.match(line)
+        if goal:
+            due = next((m.group(1) for m in map(FILES_DUE.match, lines[at:]) if m), "")
+            fact = goals.get((goal.group(4), due), "")
+            names.add(goal.group(4))
+            first.append((goal.group(1), int(goal.group(2)), goal.group(4), goal.group(3), f"no proof of `{fact}` was found" if fact else ""))
+        elif error:
+            more = itertools.takewhile(lambda text: text.startswith("  "), lines[at + 1 :])
+            text = " ".join([error.group(3), *(t.strip() for t in more)])
+            name = re.match(r"`([^`]*)`: (.*)", text)
+            lemma, text = name.groups() if name else ("", text)
+            names.add(lemma)
+            passed_on = FOLLOWS.match(text)
+            if passed_on:
+                names.update([passed_on.group(1), *re.sub(r" \(via [^)]*\)| and \d+ more$", "", passed_on.group(2)).split(", ")])
+            else:
+                first.append((error.group(1), int(error.group(2)), lemma, text, fact_of(text)))
     return first, names
+
+
+def refusals(said, folder):
+    """The errors at a fact that follow from no other: (file in the folder, line, lemma, fact, whole text); those at a name, a file or the syntax; and
+    the names of all that were refused."""
+    found, names = errors(said)
+    told = [(os.path.relpath(folder / file, folder), line, lemma, fact, text) for file, line, lemma, text, fact in found]
+    unread = [error for error in told if not error[3] and UNREAD.search(re.sub(r"`[^`]*`", "``", error[4]))]
+    return [error for error in told if error not in unread], unread, names
 
 
 def cut(text, most=400):
@@ -166,4 +213,4 @@ def shortened(text, most):
     def term(m):
         return m.group() if len(m.group()) <= 150 else f"{m.group()[:70]} .. {m.group()[-70:]}"
 
-    return cut(re.sub(r"`[^`]*`", term, re.sub(r"(?: \.before)+", " ..", text)), most)
+    return cut(re.sub(r"`[^`]*`", term, re.sub(r"(?:\.before)+", "..", text)), most)
