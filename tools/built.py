@@ -17,8 +17,8 @@ NAMES = ("archive", "archive needs", "archive server", "archive client", "stack"
 
 def archive():
     """The archive that ships, or what rt writes where it is not there."""
-    folder = ROOT / "target" / "staticlib"
-    found = [folder / name for name in ("libcendrulas.a", "libembed.a") if (folder / name).is_file()]
+    places = (ROOT / "target" / "staticlib" / "libcendrulas.a", ROOT / "crates" / "embed_c" / "out" / "libembed_c.a")
+    found = [place for place in places if place.is_file()]
     if not found:
         sys.exit("figures: no archive in target/staticlib; host/test makes it")
     return found[0]

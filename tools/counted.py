@@ -13,11 +13,11 @@ import tempfile
 import time
 
 import promised
-from trying import ROOT, copy_of, crate_lines, needed, rt
+from trying import ROOT, check, copy_of, crate_lines, kept, needed
 
 HEADER = ROOT / "include" / "cendrulas.h"
 HOSTS = {"cendrulas": ROOT / "host" / "cendrulas" / "src", "plain": ROOT / "bench" / "plain" / "src", "model": ROOT / "host" / "tests" / "src" / "model"}
-EMBED = ROOT / "crates" / "embed" / "src"
+EXPORTS = ROOT / "crates" / "embed_c" / "src"
 # those that are measured
 MEASURED = ("gate-passed", "gate-time", "loop", "load", "instructions", "bench machine", "bench runs")
 # figures that stand in a text of the host's side: file, and the number in it
@@ -58,10 +58,10 @@ def kit():
 
 def exported():
     """The names of the exported functions. The header declares the same ones."""
-    ours = {name for file in EMBED.glob("*.rt") for name in re.findall(r'^ *pub extern "C" fn (\w+)\(', file.read_text(), re.M)}
+    ours = {name for file in EXPORTS.glob("*.rt") for name in re.findall(r'^ *pub extern "C" fn (\w+)\(', file.read_text(), re.M)}
     declared = set(re.findall(r"^(?!static)\w+ (cendrulas_\w+)\([^{]*?\);", HEADER.read_text(), re.M))
     if ours != declared:
-        sys.exit("figures: the header and crate embed have different functions: " + " ".join(sorted(ours ^ declared)))
+        sys.exit("figures: the header and crate embed_c have different functions: " + " ".join(sorted(ours ^ declared)))
     return sorted(ours)
 
 
@@ -77,7 +77,7 @@ def sizes():
 
 
 def number(name, place):
-    """The number of a definition, as in memorySize of cluster/Ranges."""
+    """The number of a definition, as in memory_size of cluster/Ranges."""
     crate, file = place.split("/")
     return value(ROOT / "crates" / crate / "specs" / f"{file}.antt", rf"^{name} = (\d+)$")
 
@@ -96,18 +96,18 @@ def constant(name, place):
 def tagged():
     """Lengths that have a tag in them, by the definitions' numbers. A stamp is a number of 4 bytes, a writer and a tag; a share is a length of 2 bytes,
     the fragment, S digests, the nonce's digest and S tags."""
-    ranges = {name: number(name, "cluster/Ranges") for name in ("keySize", "topLength", "topFaults", "mostServers")}
-    tag, digest, faults = number("tagSize", "hmac/Hmac"), ranges["keySize"], ranges["topFaults"]
+    ranges = {name: number(name, "cluster/Ranges") for name in ("key_size", "top_length", "top_faults", "most_servers")}
+    tag, digest, faults = number("tag_size", "hmac/Hmac"), ranges["key_size"], ranges["top_faults"]
     stamp = 4 + 1 + tag
     stored = stamp + 2 + digest
-    fragment = (ranges["topLength"] + faults) // (faults + 1)
+    fragment = (ranges["top_length"] + faults) // (faults + 1)
     return {
         "tag": f"{tag}",
         "stamp": f"{stamp}",
         "tagged": f"{stamp + digest}",
         "candidate": f"{stamp + digest} + {tag}S",
         "stored": f"{stored} + f + {digest + tag}S",
-        "most stored": f"{stored + fragment + (digest + tag) * ranges['mostServers']:,}",
+        "most stored": f"{stored + fragment + (digest + tag) * ranges['most_servers']:,}",
     }
 
 
@@ -194,20 +194,22 @@ def timed(what, run):
 
 
 def loop_of(crate, proof):
-    """Rows of one crate: a first check, a second one, one with a changed proof, and a wrong program."""
+    """Rows of one crate over what a check of it kept: with nothing changed, with a changed proof, and a wrong program."""
     with tempfile.TemporaryDirectory(prefix="figures-") as name:
         work = pathlib.Path(name)
         copy_of(needed(crate), work)
+        kept(ROOT / "crates" / crate / "out" / "incremental", work / "crates" / crate / "out" / "incremental")
 
-        def check():
-            status, said = rt(work, "dev", crate)
+        def checked():
+            status, said = check(work, crate)
             if status != 0:
                 sys.exit(f"figures: {crate} is not accepted: {said[-300:]}")
 
-        rows = [timed(f"`rt dev {crate}`, the first time", check), timed(".. again, nothing changed", check)]
+        checked()
+        rows = [timed(f"`rt check` in crates/{crate}, nothing changed", checked)]
         with (work / "crates" / crate / "proofs" / proof).open("a") as file:
             file.write("\n-- one line more\n")
-        rows.append(timed(f".. again, with another text of proofs/{proof}", check))
+        rows.append(timed(f".. with another text of proofs/{proof}", checked))
     edit = min((ROOT / "crates" / crate / "edits").glob("*.edit")).stem
     tried = [ROOT / "tools" / "edits", f"{crate}/{edit}"]
     return [*rows, timed(f"`tools/edits {crate}/{edit}`", lambda: subprocess.run(tried, stdout=subprocess.DEVNULL, check=True))]
