@@ -6,7 +6,7 @@ import re
 
 from trying import ROOT, crate_lines
 
-NAMED = re.compile(r"((?:`[\w·.-]+`(?:, | and | )+)+)in ((?:crates/)?\w+/[\w/]*\w(?:\.antt|\.rt)?)")
+NAMED = re.compile(r"((?:`[\w'.-]+`(?:, | and | )+)+)in ((?:crates/)?\w+/[\w/]*\w(?:\.antt|\.rt)?)")
 ASIDE = re.compile(r"(`[\w-]+`) \((\w+\.antt)\)|\(((?:`[\w-]+`, )+)(\w+\.antt)\)")
 THEOREM = re.compile(r"^\| (`[\w-]+`(?:, `[\w-]+`)*) \| (\w+/proofs/\w+\.antt(?:, \w+\.antt)*) \|", re.M)
 
@@ -39,6 +39,9 @@ def missing():
     """The names that are not where a document says, each with its document."""
     wrong = []
     for page in sorted((ROOT / "docs").glob("*.md")):
+        if page.name == "PORT.md":
+            # it sets names of another time beside today's
+            continue
         text = page.read_text()
         wrong += [f"{page.name}: {crate}{path}" for crate, path in PATH.findall(text) if crate in crate_lines() and not in_code(crate, path[2:].split("::"))]
         for names, place in NAMED.findall(text):
