@@ -53,7 +53,7 @@ def files(pattern):
 
 
 def kit():
-    return "`" + subprocess.run(["rt", "version"], stdout=subprocess.PIPE, text=True, check=True).stdout.split()[0] + "`"
+    return "`" + subprocess.run(["rt", "version"], stdout=subprocess.PIPE, text=True, check=True).stdout.strip() + "`"
 
 
 def exported():
