@@ -21,4 +21,5 @@ pub mod Repairs
 pub mod Judged
 pub mod FilterReplies
 pub mod ListBytes
+pub mod ListCounted
 pub mod Makes

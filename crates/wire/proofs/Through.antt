@@ -118,25 +118,25 @@ module _ (c : Config) {s : List ℕ} {at : ℕ} where
       a.number
       b.leaves
 
-  share_stops1 : {n p : ℕ} → TookAt (number2_l 0 top_length) s at n p → Stops (run (fragment_size_def c.threshold n)) s p
+  pub share_stops1 : {n p : ℕ} → TookAt (number2_l 0 top_length) s at n p → Stops (run (fragment_size_def c.threshold n)) s p
       → Stops (share_f c) s at
   unfolding share_f
   share_stops1 {n} {p} a z =
       stops-via _ _ _ (stops_second _ _ a.leaves (stops_first _ _ (subst (λ (k : ℕ). Stops (run (fragment_size_def c.threshold k)) s p) a.number
       z)))
 
-  share_stops2 : {n p q : ℕ} → TookAt (number2_l 0 top_length) s at n p → Fragment c s n p q → Stops (run (digests_size_def c)) s q → Stops
+  pub share_stops2 : {n p q : ℕ} → TookAt (number2_l 0 top_length) s at n p → Fragment c s n p q → Stops (run (digests_size_def c)) s q → Stops
       (share_f c) s at
   unfolding share_f
   share_stops2 a b z = stops-via _ _ _ (stops_second _ _ a.leaves (stops_second _ _ (sized a b) (stops_first _ _ z)))
 
-  share_stops3 : {n p q d : ℕ} → TookAt (number2_l 0 top_length) s at n p → Fragment c s n p q
+  pub share_stops3 : {n p q d : ℕ} → TookAt (number2_l 0 top_length) s at n p → Fragment c s n p q
       → Ran (digests_size_def c) s q d → Stops (run digest_size) s d → Stops (share_f c) s at
   unfolding share_f
   share_stops3 a b x z = stops-via _ _ _ (stops_second _ _ a.leaves (stops_second _ _ (sized a b)
       (stops_second _ _ x.leaves (stops_first _ _ z))))
 
-  share_stops4 : {n p q d g : ℕ} → TookAt (number2_l 0 top_length) s at n p → Fragment c s n p q
+  pub share_stops4 : {n p q d g : ℕ} → TookAt (number2_l 0 top_length) s at n p → Fragment c s n p q
       → Ran (digests_size_def c) s q d → Ran digest_size s d g
       → Stops (run (tags_size_def c)) s g → Stops (share_f c) s at
   unfolding share_f
