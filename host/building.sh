@@ -5,9 +5,9 @@ exports=$root/crates/embed_c # the static library's crate
 proved=$exports/out/libembed_c.a # written by rt whenever the library is proved
 library=$root/target/staticlib/libcendrulas.a # the same under the name that ships
 
-# Seconds that each crate took on two cores. The time left is scaled by how long this machine has taken so far.
-declare -A usual=([cluster]=2 [sha256]=35 [hmac]=13 [gf256]=6 [columns]=12 [erasure]=37 [protocol]=8 [wire]=44 [state]=10 [decide]=47 [server]=55 \
-    [client]=96 [planner]=9 [drill]=57 [embed]=30)
+# Seconds that each crate took from nothing, on four cores with much other work. The time left is scaled by how long this machine has taken so far.
+declare -A usual=([cluster]=16 [columns]=26 [sha256]=39 [hmac]=18 [gf256]=17 [erasure]=76 [format]=13 [protocol]=25 [runs]=9 [wire]=55 [state]=21 \
+    [decide]=52 [server]=66 [client]=118 [drill]=69 [planner]=27 [embed]=60 [embed_c]=42)
 new_crate=30
 
 say() {

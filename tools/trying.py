@@ -146,7 +146,7 @@ def fact_of(text, most=400):
         re.search(r"expected type (`[^`]*`),? but this has type (`[^`]*`)", text),
         re.search(r"the two types are (`[^`]*`) \(expected\) and (`[^`]*`) \(found\)", text),
     ]
-    differ = r"differ (?:only )?where one has (`[^`]*`) \(expected\).*? and the other has (`[^`]*`) \(found\)"
+    differ = r"differ (?:only )?where one has (`[^`]*`) \(expected\)(?!, at the start).*? and the other has (`[^`]*`) \(found\)"
     part = re.search(r"computed as far as they go, the two types (?:first )?" + differ, text) or re.search(differ, text)
     said = [f"expected {m.group(1)}, found {m.group(2)}" for m in whole if m]
     if said:
