@@ -4,12 +4,15 @@ An edit file begins with what is wrong, in lines '# ..'; where a crate's edit ch
 Blocks 'file:', 'old:', 'new:' follow; a text goes on over the next lines up to the next key; 'file:' holds for the pairs after it, and an old text
 stands in its file exactly once. Later lines '# ..' are remarks.
 """
+import hashlib
 import itertools
+import json
 import os
 import pathlib
 import re
 import shutil
 import subprocess
+import sys
 
 ROOT = pathlib.Path(__file__).resolve().parent.parent
 PARTS = ("src", "specs", "proofs")
@@ -133,6 +136,53 @@ def at_a_time():
     """How many checks go side by side here: one for each processor, and 4 GB of memory for each."""
     pages = os.sysconf("SC_PHYS_PAGES") * os.sysconf("SC_PAGE_SIZE")
     return max(1, min(os.cpu_count() or 1, pages // (4 << 30)))
+
+
+def summed(crates):
+    """The checksum of all that a try reads but its edit: the prover, these tools, and the crates with their lines of crates.txt."""
+    sums = [rt(ROOT, "version")[1], *crates.values()]
+    places = [ROOT / "crates" / name / part for name in crates for part in PARTS]
+    for file in [pathlib.Path(__file__), pathlib.Path(sys.argv[0]), *(f for place in places for f in sorted(place.rglob("*")))]:
+        if file.is_file():
+            sums += [str(file.resolve().relative_to(ROOT)), hashlib.sha256(file.read_bytes()).hexdigest()]
+    return hashlib.sha256(repr(sums).encode()).hexdigest()
+
+
+class Told:
+    """What earlier tries on this machine came to, by the checksum of all that they read, as rt keeps what it proved: the same is not tried again. Only
+    what was refused as it must be is kept."""
+
+    def __init__(self, anew):
+        self.home = pathlib.Path(os.environ.get("XDG_CACHE_HOME") or pathlib.Path.home() / ".cache") / "cendrulas" / "tried"
+        self.anew, self.sums = anew, {}
+
+    def key(self, crate, edit):
+        """Crates are read once, before anything is copied."""
+        if crate not in self.sums:
+            self.sums[crate] = summed(needed(crate))
+        return hashlib.sha256(repr([self.sums[crate], crate, edit.name, edit.read_bytes()]).encode()).hexdigest()
+
+    def of(self, crate, edit):
+        key = self.key(crate, edit)
+        try:
+            return None if self.anew else json.loads((self.home / key).read_text())
+        except (OSError, ValueError):
+            return None
+
+    def keep(self, crate, found):
+        """Keeps what was said by edit, unless a file of the crates has changed since they were read."""
+        if found and summed(needed(crate)) == self.sums.get(crate):
+            for key, said in found:
+                self.put(key, said)
+
+    def put(self, key, said):
+        try:
+            self.home.mkdir(mode=0o700, parents=True, exist_ok=True)
+            new = self.home / f"{key}.{os.getpid()}"
+            new.write_text(json.dumps(said))
+            new.replace(self.home / key)
+        except OSError:
+            pass
 
 
 def is_refusal(status, said):
