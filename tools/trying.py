@@ -12,7 +12,6 @@ import pathlib
 import re
 import shutil
 import subprocess
-import sys
 
 ROOT = pathlib.Path(__file__).resolve().parent.parent
 PARTS = ("src", "specs", "proofs")
@@ -139,18 +138,17 @@ def at_a_time():
 
 
 def summed(crates):
-    """The checksum of all that a try reads but its edit: the prover, these tools, and the crates with their lines of crates.txt."""
+    """The checksum of all that a try reads but its edit: the kit, and the crates with their lines of crates.txt."""
     sums = [rt(ROOT, "version")[1], *crates.values()]
-    places = [ROOT / "crates" / name / part for name in crates for part in PARTS]
-    for file in [pathlib.Path(__file__), pathlib.Path(sys.argv[0]), *(f for place in places for f in sorted(place.rglob("*")))]:
+    for file in (f for name in crates for part in PARTS for f in sorted((ROOT / "crates" / name / part).rglob("*"))):
         if file.is_file():
-            sums += [str(file.resolve().relative_to(ROOT)), hashlib.sha256(file.read_bytes()).hexdigest()]
+            sums += [str(file.relative_to(ROOT)), hashlib.sha256(file.read_bytes()).hexdigest()]
     return hashlib.sha256(repr(sums).encode()).hexdigest()
 
 
 class Told:
-    """What earlier tries on this machine came to, by the checksum of all that they read, as rt keeps what it proved: the same is not tried again. Only
-    what was refused as it must be is kept."""
+    """What the prover said of edits that were tried before on this machine, by the checksum of all that the try read, as rt keeps what it proved: the
+    same is not tried again, but judged again. Kept is what was said where it refused a proof."""
 
     def __init__(self, anew):
         self.home = pathlib.Path(os.environ.get("XDG_CACHE_HOME") or pathlib.Path.home() / ".cache") / "cendrulas" / "tried"
@@ -163,23 +161,26 @@ class Told:
         return hashlib.sha256(repr([self.sums[crate], crate, edit.name, edit.read_bytes()]).encode()).hexdigest()
 
     def of(self, crate, edit):
+        """The status and what was said, or nothing."""
         key = self.key(crate, edit)
         try:
-            return None if self.anew else json.loads((self.home / key).read_text())
+            status, said = json.loads((self.home / key).read_text())
+            return None if self.anew else (status, said)
         except (OSError, ValueError):
             return None
 
     def keep(self, crate, found):
-        """Keeps what was said by edit, unless a file of the crates has changed since they were read."""
+        """Keeps what was said (key, status, text), unless a file of the crates has changed since they were read."""
+        found = [one for one in found if is_refusal(*one[1:])]
         if found and summed(needed(crate)) == self.sums.get(crate):
-            for key, said in found:
-                self.put(key, said)
+            for key, status, said in found:
+                self.put(key, [status, said])
 
-    def put(self, key, said):
+    def put(self, key, what):
         try:
             self.home.mkdir(mode=0o700, parents=True, exist_ok=True)
             new = self.home / f"{key}.{os.getpid()}"
-            new.write_text(json.dumps(said))
+            new.write_text(json.dumps(what))
             new.replace(self.home / key)
         except OSError:
             pass
@@ -211,7 +212,7 @@ def fact_of(text, most=400):
     sides = sides or re.search(r"(?:the equations do not join|before the equations had joined) (`[^`]*`) to (`[^`]*`)", text)
     if sides:
         return f"not joined: {sides.group(1)} and {sides.group(2)}"
-    other = re.match(r"(`[^`]*`) ≟ (`[^`]*`): does not hold", text)
+    other = re.match(r"(`[^`]*`) ≟ (`[^`]*`):? does not hold", text)
     if other:
         return f"{other.group(1)} is not {other.group(2)}"
     sought = re.search(r"the first part of which no proof was found is `[^`]*`, (`[^`]*`)", text, re.I) or re.match(r"`search`: no proof of (`[^`]*`)", text)
