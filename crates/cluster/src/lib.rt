@@ -4,6 +4,7 @@
 ghost use Rattle.std.specs.Prelude.{◌≡◌, not};
 ghost use Rattle.cluster.specs.Config.{shelf};
 ghost use Rattle.cluster.specs.Ranges.{within};
+ghost use Rattle.cluster.specs.Refusals.{refusal_number, outcome_told};
 
 pub mod refusals; // refusals by name
 
@@ -39,6 +40,55 @@ pub const CAPACITY: usize = 32;
 // The refusal of a lent buffer, for whose length document 01's table has no number, that is not of its size.
 pub const WRONG_SIZE: u8 = 255;
 
+// The refusals of documents 01 and 02.
+#[derive(Clone, Copy, PartialEq, Eq)]
+pub enum Refusal {
+    MemorySize, // a memory or a work area has another length
+    Memory, // the memory is no server record
+    Faults, // t is outside 1 to 4
+    Server, // the server is outside 1 to S
+    Client, // the client is outside its range
+    Length, // a content is longer than the most
+    Layout, // a packet breaks the layout
+    Addressee, // a packet is for another shelf, server or client
+    Sender, // a server gets a reply, or a request that its client may not send
+    Reply, // no reply of this call and round, or a second one
+    Hand, // a begin with a call in hand; another step with none
+    Numbers, // a number would pass its top
+    Room, // the output has too little room
+    Fragments, // too few different servers, or fragments of another length
+    Line, // a drill line is not of the form
+    Stores, // a plan's stores are more than a memory holds
+    WrongSize, // a lent buffer, for whose length document 01's table has no number, is not of its size
+}
+
+impl Refusal {
+    // The refusal's number in the tables of documents 01 and 02.
+    pub fn number(self) -> u8
+        ensures { result ≡ refusal_number self }
+    {
+        match self {
+            Refusal::MemorySize => 1,
+            Refusal::Memory => 2,
+            Refusal::Faults => 3,
+            Refusal::Server => 4,
+            Refusal::Client => 5,
+            Refusal::Length => 6,
+            Refusal::Layout => 7,
+            Refusal::Addressee => 8,
+            Refusal::Sender => 9,
+            Refusal::Reply => 12,
+            Refusal::Hand => 13,
+            Refusal::Numbers => 14,
+            Refusal::Room => 15,
+            Refusal::Fragments => 16,
+            Refusal::Line => 17,
+            Refusal::Stores => 18,
+            Refusal::WrongSize => 255,
+        }
+    }
+}
+
 // What an operation answers: 0 or a refusal's number, and the bytes written to the output buffer.
 #[derive(Clone, Copy)]
 pub struct Outcome {
@@ -51,6 +101,16 @@ pub fn refused(number: u8) -> Outcome
     ensures { result ≡ record { number = number; count = 0 } }
 {
     Outcome { number, count: 0 }
+}
+
+// 0 and the bytes written, or a refusal's number and no bytes.
+pub fn outcome_of(told: Result<usize, Refusal>) -> Outcome
+    ensures { result ≡ outcome_told told }
+{
+    match told {
+        Ok(count) => Outcome { number: 0, count },
+        Err(why) => refused(why.number()),
+    }
 }
 
 // S: how many servers there are.
@@ -71,11 +131,5 @@ pub fn threshold(t: u8) -> usize
 pub fn outside(lo: usize, hi: usize, x: usize) -> bool
     ensures { result ≡ not (within lo hi x) }
 {
-    if x < lo {
-        return true;
-    }
-    if hi < x {
-        return true;
-    }
-    false
+    x < lo || hi < x
 }
