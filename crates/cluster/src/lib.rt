@@ -114,17 +114,19 @@ pub fn outcome_of(told: Result<usize, Refusal>) -> Outcome
 }
 
 // S: how many servers there are.
+#[tactic(auto, unfolding(crate::specs::Config::shelf))]
 pub fn servers(t: u8) -> usize
     ensures { result ≡ (shelf t).servers }
 {
-    3 * (t as usize) + 1
+    3 * usize::from(t) + 1
 }
 
 // k: how many fragments give a content back.
+#[tactic(auto, unfolding(crate::specs::Config::shelf))]
 pub fn threshold(t: u8) -> usize
     ensures { result ≡ (shelf t).threshold }
 {
-    (t as usize) + 1
+    usize::from(t) + 1
 }
 
 // Not lo to hi.
