@@ -17,8 +17,9 @@ use Rattle.format.specs.Format.{Fmt, guard, ranged, parse_byte, parse2, parse4, 
 use Rattle.format.specs.Reading.{bytes_at, Leaves, Stops, number4_at}
 use Rattle.wire.specs.Places.{length_at}
 use Rattle.wire.specs.Reads.{Past, FieldAs, RangedAs, number_l, first_byte}
-use Rattle.wire.specs.declared.fields.Field.{Field}
-use Rattle.wire.specs.declared.fields.Field.TheVariants as field
+use Rattle.std.specs.Prelude.{Some, None}
+use Rattle.std.specs.declared.option.Option.{Option}
+use Rattle.wire.specs.declared.fields.Cursor.{Cursor}
 
 -- ---- numbers
 
@@ -37,8 +38,8 @@ module _ {F : Fmt ℕ} {lo hi w : ℕ} {X : List ℕ → ℕ} (r : Numbered F lo
   pub ends : length (drop at s) < w → Stops F s at
   ends h = record { stopped = r.short (drop at s) h }
 
-  pub answers : w ≤ length (drop at s) → (f : Field) {v : ℕ} → v ≡ X (drop at s) → RangedAs lo hi v (at + w) f → FieldAs (number_l F X w) s at f
-  answers h (field.Value x c) {v} e (q, l, k, p) =
+  pub answers : w ≤ length (drop at s) → (f : Option (ℕ × Cursor)) {v : ℕ} → v ≡ X (drop at s) → RangedAs lo hi v (at + w) f → FieldAs (number_l F X w) s at f
+  answers h (Some x) {v} e (q, l, k, p) =
       let n : ℕ = X (drop at s) in
       let a : lo ≤ n = omega arith in
       let b : n ≤ hi = omega arith in
@@ -48,8 +49,8 @@ module _ {F : Fmt ℕ} {lo hi w : ℕ} {X : List ℕ → ℕ} (r : Numbered F lo
         ok = r.ok n a b;
       } in
       record { leaves = subst (λ (z : ℕ). Leaves F s at n z) (sym p) g; number = q ∙ e; place = p }
-  answers h field.Broken {v} e (inl l) = record { stopped = r.long (drop at s) h ∙ simp (lt-leb lo (X (drop at s)) (omega arith)) }
-  answers h field.Broken {v} e (inr k) = record {
+  answers h None {v} e (inl l) = record { stopped = r.long (drop at s) h ∙ simp (lt-leb lo (X (drop at s)) (omega arith)) }
+  answers h None {v} e (inr k) = record {
     stopped = r.long (drop at s) h ∙ simp (lt-leb (X (drop at s)) hi (omega arith))
         (guard_none (leb lo (X (drop at s))));
   }

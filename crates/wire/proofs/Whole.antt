@@ -23,10 +23,9 @@ use Rattle.protocol.proofs.Bodies.{Kind, clock-kind, complete-reply-kind, collec
 use Rattle.protocol.proofs.Whole.{body-leaves, body_stops, decoded, refused, trailing}
 use Rattle.wire.specs.Places.{body_at, packet_at, write_at_def, candidate_list, no_label, body_label, body_number, fragment_held, fragment_of, fragment_in}
 use Rattle.wire.specs.Reads.{Layout, TookAt, Past, FieldAs, LabelledAs, without_label, TookBody, BodyAs, TookPacket}
-use Rattle.wire.specs.declared.fields.Field.{Field}
-use Rattle.wire.specs.declared.fields.Field.TheVariants as field
-use Rattle.wire.specs.declared.parts.Labelled.{Labelled}
-use Rattle.wire.specs.declared.parts.Labelled.TheVariants as labelled
+use Rattle.std.specs.Prelude.{Some, None}
+use Rattle.std.specs.declared.option.Option.{Option}
+use Rattle.wire.specs.declared.fields.Cursor.{Cursor}
 
 -- ---- the numbers of a list and of what is held
 
@@ -63,15 +62,15 @@ module _ (c : Config) (s : List ℕ) (at : ℕ) where
     broken : Stops L.format s at → Stops (body_f c j) s at
     broken z = subst (λ (i : ℕ). Stops (body_f c i) s at) (sym ej) (body_stops d z)
 
-    pub of_part : ((x : List ℕ) → label_of (stamp_at_def x) ≡ body_label (body_at c k x)) → (r : Labelled) → LabelledAs L s at r → BodyAs c j s at r
-    of_part f (labelled.Value l v p) t = there t.took (t.label ∙ f (drop at s))
-    of_part f labelled.Broken z = broken z
+    pub of_part : ((x : List ℕ) → label_of (stamp_at_def x) ≡ body_label (body_at c k x)) → (r : Option (Label × ℕ × Cursor)) → LabelledAs L s at r → BodyAs c j s at r
+    of_part f (Some x) t = there t.took (t.label ∙ f (drop at s))
+    of_part f None z = broken z
 
-    of_plain : ((x : List ℕ) → no_label ≡ body_label (body_at c k x)) → (y : Field) → FieldAs L s at y → BodyAs c j s at (without_label y)
-    of_plain f (field.Value v p) t = there t (f (drop at s))
-    of_plain f field.Broken z = broken z
+    of_plain : ((x : List ℕ) → no_label ≡ body_label (body_at c k x)) → (y : Option (ℕ × Cursor)) → FieldAs L s at y → BodyAs c j s at (without_label y)
+    of_plain f (Some x) t = there t (f (drop at s))
+    of_plain f None z = broken z
 
-    pub of_field : ((x : List ℕ) → no_label ≡ body_label (body_at c k x)) → (y : Field) → FieldAs L s at y → {r : Labelled} → r ≡ without_label y
+    pub of_field : ((x : List ℕ) → no_label ≡ body_label (body_at c k x)) → (y : Option (ℕ × Cursor)) → FieldAs L s at y → {r : Option (Label × ℕ × Cursor)} → r ≡ without_label y
         → BodyAs c j s at r
     of_field f y t er = subst (BodyAs c j s at) (sym er) (of_plain f y t)
 

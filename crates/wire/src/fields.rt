@@ -1,4 +1,4 @@
-// Readers of single fields. Each answers a number and the cursor past the field, or that the bytes break the layout there.
+// Readers of single fields. Each answers a number and the cursor past the field, or None: there the bytes break the layout.
 ghost use Rattle.std.specs.Prelude.{◌≤◌, length};
 ghost use Rattle.wire.specs.Reads.{FieldAs, RangedAs, byte_l, number2_l, number4_l, code_l, RunAs, ZeroAs};
 
@@ -10,108 +10,76 @@ pub struct Cursor {
     pub at: usize,
 }
 
-// A field that was let through: its number, and the cursor past it.
-#[derive(Clone, Copy)]
-pub enum Field {
-    Value(u32, Cursor),
-    Broken,
-}
-
-// A run of bytes that is there: the cursor past it.
-#[derive(Clone, Copy)]
-pub(crate) enum Run {
-    Past(Cursor),
-    Broken,
-}
-
 // The number v, where it is from lo to hi, and the place past its bytes.
-fn ranged(v: u32, lo: u32, hi: u32, next: usize) -> Field
+fn ranged(v: u32, lo: u32, hi: u32, next: usize) -> Option<(u32, Cursor)>
     ensures { RangedAs lo hi v next result }
 {
-    if v < lo {
-        return Field::Broken;
+    if v < lo || hi < v {
+        return None;
     }
-    if hi < v {
-        return Field::Broken;
-    }
-    Field::Value(v, Cursor { at: next })
+    Some((v, Cursor { at: next }))
 }
 
 // A byte from lo to hi.
-pub fn byte_field(s: &[u8], c: Cursor, lo: u32, hi: u32) -> Field
+pub fn byte_field(s: &[u8], c: Cursor, lo: u32, hi: u32) -> Option<(u32, Cursor)>
     ensures { FieldAs (byte_l lo hi) s.now c.at result }
 {
-    let at = c.at;
-    if s.len() <= at {
-        return Field::Broken;
-    }
-    ranged(s[at] as u32, lo, hi, at + 1)
+    let v = *s.get(c.at)?;
+    ranged(u32::from(v), lo, hi, c.at + 1)
 }
 
 // A number of 2 bytes, from lo to hi.
-pub(crate) fn number2_field(s: &[u8], c: Cursor, lo: u32, hi: u32) -> Field
+pub(crate) fn number2_field(s: &[u8], c: Cursor, lo: u32, hi: u32) -> Option<(u32, Cursor)>
     ensures { FieldAs (number2_l lo hi) s.now c.at result }
 {
-    let at = c.at;
-    let b = rest(s, at);
+    let b = rest(s, c.at);
     if b.len() < crate::sizes::LENGTH {
-        return Field::Broken;
+        return None;
     }
-    ranged(number2(b), lo, hi, at + crate::sizes::LENGTH)
+    ranged(number2(b), lo, hi, c.at + crate::sizes::LENGTH)
 }
 
 // A number of 4 bytes, from lo to hi.
-pub(crate) fn number4_field(s: &[u8], c: Cursor, lo: u32, hi: u32) -> Field
+pub(crate) fn number4_field(s: &[u8], c: Cursor, lo: u32, hi: u32) -> Option<(u32, Cursor)>
     ensures { FieldAs (number4_l lo hi) s.now c.at result }
 {
-    let at = c.at;
-    let b = rest(s, at);
+    let b = rest(s, c.at);
     if b.len() < crate::sizes::NUMBER {
-        return Field::Broken;
+        return None;
     }
-    ranged(number4(b), lo, hi, at + crate::sizes::NUMBER)
+    ranged(number4(b), lo, hi, c.at + crate::sizes::NUMBER)
 }
 
 // n bytes.
-pub(crate) fn run_field(s: &[u8], c: Cursor, n: usize) -> Run
+pub(crate) fn run_field(s: &[u8], c: Cursor, n: usize) -> Option<Cursor>
     requires { c.at ≤ length s.now }
     ensures { RunAs n s.now c.at result }
 {
-    let at = c.at;
-    if s.len() - at < n {
-        return Run::Broken;
+    if s.len() - c.at < n {
+        return None;
     }
-    Run::Past(Cursor { at: at + n })
+    Some(Cursor { at: c.at + n })
 }
 
 // n bytes, all zero.
-pub(crate) fn zero_run(s: &[u8], c: Cursor, n: usize) -> Run
+pub(crate) fn zero_run(s: &[u8], c: Cursor, n: usize) -> Option<Cursor>
     requires { c.at ≤ length s.now }
     ensures { ZeroAs n s.now c.at result }
 {
-    let at = c.at;
-    if s.len() - at < n {
-        return Run::Broken;
+    let next = run_field(s, c, n)?;
+    if !all_zero(&s[c.at..next.at]) {
+        return None;
     }
-    let end = at + n;
-    if all_zero(&s[at..end]) {
-        return Run::Past(Cursor { at: end });
-    }
-    Run::Broken
+    Some(next)
 }
 
 // The answer to a store: 0, 10 or 11.
-pub(crate) fn code_field(s: &[u8], c: Cursor) -> Field
+pub(crate) fn code_field(s: &[u8], c: Cursor) -> Option<(u32, Cursor)>
     ensures { FieldAs code_l s.now c.at result }
 {
-    let Field::Value(v, c1) = byte_field(s, c, 0, protocol::codes::FULL as u32) else {
-        return Field::Broken;
-    };
-    if v == 0 {
-        return Field::Value(v, c1);
+    let (v, next) = byte_field(s, c, 0, u32::from(protocol::codes::FULL))?;
+    if v != 0 && v < u32::from(protocol::codes::HELD) {
+        return None;
     }
-    if v < (protocol::codes::HELD as u32) {
-        return Field::Broken;
-    }
-    Field::Value(v, c1)
+    Some((v, next))
 }

@@ -7,7 +7,7 @@
 //         bytes2, bytes4: print2, print4; tag_of, nonce_of: padded
 // values  label_at: labelOf; stamp_at: stamp_at_def, padded; rank_at: rank; head_at: head_at_def; CandidateHead::{BLANK, blank, new, is_blank, below};
 //         Stamp's own functions stand in crate protocol
-// fields  byte_field, number2_field, number4_field, code_field: Reads' FieldAs, a number and the cursor past it, or Broken where nothing is taken
+// fields  byte_field, number2_field, number4_field, code_field: Reads' FieldAs, a number and the cursor past it, or None where nothing is taken
 // parts   share_field, candidates_field: FieldAs too; stamp_field, any_stamp_field, write_field, candidate_field, any_candidate_field, held_field:
 //         LabelledAs, with number and writer of the stamp that the part begins with
 // packet  read_packet: PacketAs, decode's answer for all kinds, with the label of body_label and the number of body_number; fragment, share_fragment:

@@ -1,6 +1,6 @@
 -- The body of each kind is one field, or none.
--- Assumes nothing.
 use borrow.Author.Rules.{rules}
+use native.Mathlib.Omega.{arith}
 use Rattle.cluster.specs.Config.{shelf}
 use mathlib.Core.Path.{refl, sym}
 use mathlib.Core.Logic.{⊎_elim}
@@ -12,44 +12,43 @@ use Rattle.protocol.specs.View.{candidate_at, share_of_size, share_at, held_at}
 use Rattle.wire.specs.Places.{body_at, body_label, body_number, length_at, write_at_def}
 use Rattle.wire.specs.Reads.{any_stamp_l, write_l, code_l, candidate_l, any_candidate_l, candidates_l, held_l}
 use Rattle.wire.proofs.Whole.{bare_as, of_part, of_field, count_of, flag_of}
-use Rattle.wire.proofs.packet.body_field.Statement.{statement}
-use Rattle.wire.proofs.packet.body_field.Tie as tie
+use Rattle.wire.proofs.packet.body_field.Goals as goal
 
-returns : tie.Need-returns-in-2
+pub returns-in-2 : goal.returns-in-2
 unfolding body_at body_label body_number
-returns c =
+returns-in-2 c =
     let a = c.args in
     let s = shelf a.t in
     of_part s a.s.now a.c.at any_stamp_l (clock-reply-kind s) (λ d. refl) (λ d. refl) c.in-2.is (λ d. refl)
     c.any_stamp_field.result c.any_stamp_field.ensures
 
-returns-2 : tie.Need-returns-in-3
+pub returns-in-3 : goal.returns-in-3
 unfolding body_at body_label body_number write_at_def length_at share_at share_of_size
-returns-2 c =
+returns-in-3 c =
     let a = c.args in
     let s = shelf a.t in
     of_part s a.s.now a.c.at (write_l s) (store-kind s) (λ d. refl) (λ d. refl) c.in-3.is (λ d. refl) c.write_field.result
     c.write_field.ensures
 
-returns-3 : tie.Need-returns-in-4
+pub returns-in-4 : goal.returns-in-4
 unfolding body_at body_label body_number
-returns-3 c =
+returns-in-4 c =
     let a = c.args in
     let s = shelf a.t in
     of_field s a.s.now a.c.at code_l (store-reply-kind s) (λ d. refl) (λ d. refl) c.in-4.is (λ d. refl)
     c.code_field.result c.code_field.ensures c.unlabelled.ensures
 
-returns-4 : tie.Need-returns-in-8
+pub returns-in-8 : goal.returns-in-8
 unfolding body_at body_label body_number candidate_at
-returns-4 c =
+returns-in-8 c =
     let a = c.args in
     let s = shelf a.t in
     of_part s a.s.now a.c.at (any_candidate_l s) (collect-reply-kind s) (λ d. refl) (λ d. refl) c.in-8.is (λ d. refl)
     c.any_candidate_field.result c.any_candidate_field.ensures
 
-returns-5 : tie.Need-returns-in-5
+pub returns-in-5 : goal.returns-in-5
 unfolding body_at body_label body_number candidate_at
-returns-5 c =
+returns-in-5 c =
     let a = c.args in
     let s = shelf a.t in
     ⊎_elim
@@ -59,33 +58,26 @@ returns-5 c =
     c.candidate_field.result c.candidate_field.ensures)
     c.in-5.is
 
-returns-6 : tie.Need-returns-in-9
+pub returns-in-9 : goal.returns-in-9
 unfolding body_at body_label body_number
-returns-6 c =
+returns-in-9 c =
     let a = c.args in
     let s = shelf a.t in
     of_field s a.s.now a.c.at (candidates_l s) (filter-kind s) (λ d. refl) (λ d. sym (count_of s (get_or d 0 0) (drop 1 d)))
     c.in-9.is (λ d. refl)
     c.candidates_field.result c.candidates_field.ensures c.unlabelled-in-9.ensures
 
-returns-7 : tie.Need-returns-in-10
+pub returns-in-10 : goal.returns-in-10
 unfolding body_at body_label body_number held_at
-returns-7 c =
+returns-in-10 c =
     let a = c.args in
     let s = shelf a.t in
     of_part s a.s.now a.c.at (held_l s) (filter-reply-kind s) (λ d. refl) (λ d. flag_of (eqb (get_or d stamp_size 0) 0) _)
     c.in-10.is (λ d. refl) c.held_field.result c.held_field.ensures
 
-returns-8 : tie.Need-returns-in_default
-returns-8 c =
-    let at-start = c.before.before in
-    let a = at-start.args in
-    let p = at-start.requires in
-    let rest = c.in_default.in_default-own.rest in
-    bare_as (shelf a.t) a.s.now a.c.at p.2 a.kind p.0 p.1 rest.0.0.0.0.0.0.1 rest.0.0.0.0.0.1
-    rest.0.0.0.0.1 rest.0.0.0.1 rest.0.0.1 rest.0.1 rest.1
-
-pub body_field_spec : {M : Type 1} → statement M
-body_field_spec = tie.close (tie.spec (λ c κs. search rules) (λ c κs. search rules) (λ c κs. search rules) (λ c κs. search rules)
-    (λ c κs. search rules) (λ c κs. search rules) (λ c κs. search rules) (λ c κs. search rules) (λ c κs. search rules)
-    returns returns-2 returns-3 returns-4 returns-5 returns-6 returns-7 returns-8)
+pub returns-in_default : goal.returns-in_default
+returns-in_default c =
+    let a = c.args in
+    let (least, most, within) = c.requires in
+    bare_as (shelf a.t) a.s.now a.c.at within a.kind least most (λ e. omega arith) (λ e. omega arith) (λ e. omega arith) (λ e. omega arith)
+    (search rules) (λ e. omega arith) (λ e. omega arith)

@@ -1,0 +1,25 @@
+use Rattle.std.proofs.Common.{arith}
+use mathlib.Core.Logic.{⊎_elim}
+use Rattle.cluster.specs.Config.{shelf}
+use Rattle.format.proofs.Leaves.{stops_short, stops-blank}
+use Rattle.protocol.specs.Packet.{any_candidate_f}
+use Rattle.wire.proofs.Through.{past-any-candidate, any-candidate-took, blank-candidate-took}
+use Rattle.wire.proofs.parts.any_candidate_field.Goals as goal
+
+pub returns-then-s-c : goal.returns-then-s-c
+returns-then-s-c c = past-any-candidate (shelf c.args.t) (omega arith)
+
+pub returns-in-Some : goal.returns-in-Some
+returns-in-Some c = any-candidate-took (shelf c.args.t) c.in-Some.ensures
+
+pub returns-in_err-next : goal.returns-in_err-next
+unfolding any_candidate_f
+returns-in_err-next c =
+    rw c.from_residual.ensures
+    (⊎_elim (λ h. stops_short _ _ _ c.in_default.ensures h) (λ h. stops-blank _ _ _ c.in_default.ensures h.0 h.1)
+    (rw c.candidate_size.ensures at c.in_err-next.ensures))
+
+pub returns : goal.returns
+returns c =
+    let z = rw c.candidate_size.ensures at c.in_ok-next.ensures in
+    blank-candidate-took (shelf c.args.t) c.in_default.ensures z.within z.zero z.place
