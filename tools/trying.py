@@ -120,6 +120,71 @@ def apply(pairs, folder):
         path.write_text(text.replace(old, new))
 
 
+def functions(text):
+    """The functions of a source as it is laid out: (type or "", name, first line, line before its body, last line), lines from 1."""
+    home, begun, lines = "", None, text.split("\n")
+    for at, line in enumerate(lines, 1):
+        block = re.match(r"impl(?:<[^>]*>)? (?:\w+(?:<[^>]*>)? for )?(\w+)", line)
+        head = re.match(r'( *)(?:pub(?:\(crate\))? )?(?:const )?(?:extern "C" )?fn (\w+)', line)
+        if block:
+            home = block.group(1)
+        elif line == "}" and begun is None:
+            home = ""
+        if head and begun is None:
+            begun = (head.group(1), head.group(2), at)
+            body = at if line.endswith("{") else None
+        elif begun and body is None and (line == begun[0] + "{" or (line.endswith("{") and line.startswith(begun[0] + ")"))):
+            body = at
+        if begun and body and line == begun[0] + "}":
+            yield home if begun[0] else "", begun[1], begun[2], body, at
+            begun = None
+
+
+def function_of(folder, pairs):
+    """The one function in whose body, and in whose own proof, the pairs of an edit change all that they change: (source, type or "", name); or nothing."""
+    found = set()
+    for file, old, _ in pairs:
+        if not file.startswith("src/"):
+            continue
+        text = (folder / file).read_text()
+        if text.count(old) != 1:
+            return None
+        first = text.count("\n", 0, text.index(old)) + 1
+        last = first + old.rstrip("\n").count("\n")
+        found |= {(file, home, name) for home, name, _, body, end in functions(text) if body < first and last < end}
+        if not any(body < first and last < end for _, _, _, body, end in functions(text)):
+            return None
+    if len(found) != 1:
+        return None
+    one = next(iter(found))
+    return one if all(file.startswith("src/") or str(pathlib.PurePath(file).parent) == proof_of(*one) for file, _, _ in pairs) else None
+
+
+def proof_of(source, home, name):
+    """The folder of a function's own proof."""
+    modules = [part for part in pathlib.PurePath(source).with_suffix("").parts[1:] if part not in ("lib", "main", "mod")]
+    return "/".join(["proofs", *modules, *([home] if home else []), name])
+
+
+def said_of(said, folder, function):
+    """What was said of one function, whose source is as the check read it, and that the crate was refused."""
+    source, home, name = function
+    mine = [(head, end) for of, called, head, _, end in functions((folder / source).read_text()) if (of, called) == (home, name)]
+    proof, lines, keep = proof_of(*function), [], False
+    for line in said.splitlines():
+        place, due, goal = ERROR.match(line) or OPEN.match(line), FILES_DUE.match(line), GOAL.match(line)
+        if place:
+            file = os.path.relpath(folder / place.group(1), folder)
+            keep = str(pathlib.PurePath(file).parent) == proof or (file == source and any(head <= int(place.group(2)) <= end for head, end in mine))
+        elif due or goal:
+            keep = (due.group(1) if due else goal.group(2)) == proof.removeprefix("proofs/")
+        elif not line.startswith("  "):
+            keep = line.startswith("logic=")
+        if keep:
+            lines.append(line)
+    return "\n".join(lines) + "\n"
+
+
 def rt(folder, *words):
     """Runs rt in a folder: its status, and what it said."""
     run = subprocess.run(["rt", *words], cwd=folder, stdin=subprocess.DEVNULL, stdout=subprocess.PIPE, stderr=subprocess.STDOUT, text=True)
