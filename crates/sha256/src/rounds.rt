@@ -105,28 +105,32 @@ fn maj(x: u32, y: u32, z: u32) -> u32
     y ^ ((x ^ y) & (y ^ z))
 }
 
+#[tactic(auto, unfolding(crate::specs::Sha256::sum0, crate::specs::Sha256::rotr))]
 fn big0(x: u32) -> u32
     ensures { result ≡ sum0 x }
 {
-    (((x >> 2) | (x << 30)) ^ ((x >> 13) | (x << 19))) ^ ((x >> 22) | (x << 10))
+    x.rotate_right(2) ^ x.rotate_right(13) ^ x.rotate_right(22)
 }
 
+#[tactic(auto, unfolding(crate::specs::Sha256::sum1, crate::specs::Sha256::rotr))]
 fn big1(x: u32) -> u32
     ensures { result ≡ sum1 x }
 {
-    (((x >> 6) | (x << 26)) ^ ((x >> 11) | (x << 21))) ^ ((x >> 25) | (x << 7))
+    x.rotate_right(6) ^ x.rotate_right(11) ^ x.rotate_right(25)
 }
 
+#[tactic(auto, unfolding(crate::specs::Sha256::sigma0, crate::specs::Sha256::rotr))]
 pub(crate) fn small0(x: u32) -> u32
     ensures { result ≡ sigma0 x }
 {
-    (((x >> 7) | (x << 25)) ^ ((x >> 18) | (x << 14))) ^ (x >> 3)
+    x.rotate_right(7) ^ x.rotate_right(18) ^ (x >> 3)
 }
 
+#[tactic(auto, unfolding(crate::specs::Sha256::sigma1, crate::specs::Sha256::rotr))]
 pub(crate) fn small1(x: u32) -> u32
     ensures { result ≡ sigma1 x }
 {
-    (((x >> 17) | (x << 15)) ^ ((x >> 19) | (x << 13))) ^ (x >> 10)
+    x.rotate_right(17) ^ x.rotate_right(19) ^ (x >> 10)
 }
 
 // A round, with its constant and its word of the schedule.
