@@ -1,6 +1,6 @@
 // FIPS 180-4, 4.1.2 and 6.2.2: the functions on words, and a round.
 ghost use Rattle.std.specs.Prelude.{◌≡◌};
-ghost use Rattle.sha256.specs.Sha256.{◌⊞◌, choose, majority, sum0, sum1, sigma0, sigma1};
+ghost use Rattle.sha256.specs.Sha256.{choose, majority, sum0, sum1, sigma0, sigma1};
 ghost use Rattle.sha256.specs.Sha256.{round_of_def, add_work};
 
 // FIPS 180-4, 4.2.2: the round constants.
@@ -84,13 +84,6 @@ pub struct Work {
     pub h: u32,
 }
 
-// The sum of two words, modulo 2^32.
-pub(crate) fn add(x: u32, y: u32) -> u32
-    ensures { result ≡ x ⊞ y }
-{
-    ((x as u64 + y as u64) % 0x1_0000_0000) as u32
-}
-
 // Choice in three operations.
 fn ch(x: u32, y: u32, z: u32) -> u32
     ensures { result ≡ choose x y z }
@@ -137,14 +130,19 @@ pub(crate) fn small1(x: u32) -> u32
 pub(crate) fn round(v: Work, k: u32, w: u32) -> Work
     ensures { result ≡ round_of_def v k w }
 {
-    let t1 = add(add(add(add(v.h, big1(v.e)), ch(v.e, v.f, v.g)), k), w);
-    let t2 = add(big0(v.a), maj(v.a, v.b, v.c));
+    let t1 = v
+        .h
+        .wrapping_add(big1(v.e))
+        .wrapping_add(ch(v.e, v.f, v.g))
+        .wrapping_add(k)
+        .wrapping_add(w);
+    let t2 = big0(v.a).wrapping_add(maj(v.a, v.b, v.c));
     Work {
-        a: add(t1, t2),
+        a: t1.wrapping_add(t2),
         b: v.a,
         c: v.b,
         d: v.c,
-        e: add(v.d, t1),
+        e: v.d.wrapping_add(t1),
         f: v.e,
         g: v.f,
         h: v.g,
@@ -156,13 +154,13 @@ pub(crate) fn added(h: [u32; 8], v: Work) -> [u32; 8]
     ensures { result ≡ add_work h v }
 {
     [
-        add(v.a, h[0]),
-        add(v.b, h[1]),
-        add(v.c, h[2]),
-        add(v.d, h[3]),
-        add(v.e, h[4]),
-        add(v.f, h[5]),
-        add(v.g, h[6]),
-        add(v.h, h[7]),
+        v.a.wrapping_add(h[0]),
+        v.b.wrapping_add(h[1]),
+        v.c.wrapping_add(h[2]),
+        v.d.wrapping_add(h[3]),
+        v.e.wrapping_add(h[4]),
+        v.f.wrapping_add(h[5]),
+        v.g.wrapping_add(h[6]),
+        v.h.wrapping_add(h[7]),
     ]
 }

@@ -5,20 +5,17 @@ ghost use Rattle.std.specs.Prelude.{◌≡◌, ◌+◌, ◌≤◌, ◌<◌, leng
 ghost use Rattle.sha256.specs.Sha256.{k_table, grow, start, compress_of};
 ghost use Rattle.sha256.specs.Steps.{later_word, Advances};
 
-use super::rounds::{K, Work, add, added, round, small0, small1};
+use super::rounds::{K, Work, added, round, small0, small1};
 
 // Word n + 16 of the schedule, from the words n to n + 15.
 fn later(w: &[u32; 16], n: usize) -> u32
     requires { n < 64 }
     ensures { result ≡ later_word w.now n }
 {
-    add(
-        add(
-            add(small1(w[(n + 14) % 16]), w[(n + 9) % 16]),
-            small0(w[(n + 1) % 16]),
-        ),
-        w[n % 16],
-    )
+    small1(w[(n + 14) % 16])
+        .wrapping_add(w[(n + 9) % 16])
+        .wrapping_add(small0(w[(n + 1) % 16]))
+        .wrapping_add(w[n % 16])
 }
 
 // Round n, and word n + 16 at the place of its word.
