@@ -139,18 +139,20 @@ fn fourth(u: Work, k: &[u32; 64], w: &[u32; 16]) -> Work
 }
 
 // The working variables before the first round.
+#[tactic(auto, unfolding(crate::specs::Sha256::start))]
 fn begin(h: [u32; 8]) -> Work
     ensures { result ≡ start h }
 {
+    let [a, b, c, d, e, f, g, h] = h;
     Work {
-        a: h[0],
-        b: h[1],
-        c: h[2],
-        d: h[3],
-        e: h[4],
-        f: h[5],
-        g: h[6],
-        h: h[7],
+        a,
+        b,
+        c,
+        d,
+        e,
+        f,
+        g,
+        h,
     }
 }
 
