@@ -106,12 +106,11 @@ fn begin(h: [u32; 8]) -> Work
 pub(crate) fn compress(h: [u32; 8], b: [u32; 16]) -> [u32; 8]
     ensures { result ≡ compress_of h (grow 48 b) }
 {
-    let k = K;
     let mut w = b;
     let mut v = begin(h);
-    v = sixteen::<0>(v, &k, &mut w);
-    v = sixteen::<16>(v, &k, &mut w);
-    v = sixteen::<32>(v, &k, &mut w);
-    v = last_sixteen(v, &k, &w);
+    v = sixteen::<0>(v, &K, &mut w);
+    v = sixteen::<16>(v, &K, &mut w);
+    v = sixteen::<32>(v, &K, &mut w);
+    v = last_sixteen(v, &K, &w);
     added(h, v)
 }
