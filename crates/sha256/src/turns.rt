@@ -101,16 +101,16 @@ fn begin(h: [u32; 8]) -> Work
     }
 }
 
-// The hash value after one block, from the value before it and the block's words.
+// Makes the hash value before one block, of these words, the one after it.
 #[tactic(auto, unfolding(crate::specs::Sha256::k_table))]
-pub(crate) fn compress(h: [u32; 8], b: [u32; 16]) -> [u32; 8]
-    ensures { result ≡ compress_of h (grow 48 b) }
+pub(crate) fn compress(h: &mut [u32; 8], b: [u32; 16])
+    ensures { h.new ≡ compress_of h.old (grow 48 b) }
 {
     let mut w = b;
-    let mut v = begin(h);
+    let mut v = begin(*h);
     v = sixteen::<0>(v, &K, &mut w);
     v = sixteen::<16>(v, &K, &mut w);
     v = sixteen::<32>(v, &K, &mut w);
     v = last_sixteen(v, &K, &w);
-    added(h, v)
+    *h = added(*h, v);
 }
