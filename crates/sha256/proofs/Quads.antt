@@ -4,10 +4,12 @@ use mathlib.Core.Path.{◌≡◌, sym, ap, ap₂, ◌∙◌}
 use mathlib.Core.List.{List, [], ◌∷◌, ◌++◌, append_assoc}
 use Prim.Native.Nat.{ℕ, suc, ◌+◌, ◌-◌, ◌*◌, ◌/◌, ◌%◌, ◌^◌, ◌<◌}
 use native.Mathlib.Omega.{arith}
-use lib.ListN.{length, take, get_or, length-append}
-use lib.Seq.{paste, take_at, take_all, length-take-le}
+use lib.ListN.{length, take, get_or}
+use borrow.Rule.Slice.PartMut.{put_mid}
+use Rattle.std.specs.Int.{w32, to_be_bytes}
+use Rattle.std.proofs.lemmas.Slice.{take-put_mid}
 use Rattle.sha256.specs.Sha256.{tab, big_endian}
-use Rattle.sha256.proofs.Laws.{tab-length}
+use Rattle.sha256.proofs.Laws.{tab-length, be_four}
 
 -- byte m of the words h, as `bytes_of` has it
 abbrev pub byte_of : List ℕ → ℕ → ℕ
@@ -27,18 +29,15 @@ quad_is h i = sym
     (λ k. byte_is h (4 * i) i 0 (omega arith) (omega arith) k ∷ byte_is h (suc (4 * i)) i 1 (omega arith) (omega arith) k ∷
     byte_is h (suc (suc (4 * i))) i 2 (omega arith) (omega arith) k ∷ byte_is h (suc (suc (suc (4 * i)))) i 3 (omega arith) (omega arith) k ∷ [])
 
-pub quad_more : (h out b : List ℕ) (i : ℕ) → length out ≡ 32 → i < 8 → take (4 * i) out ≡ tab (4 * i) (byte_of h) → b ≡ big_endian 4 (get_or h i 0)
-    → take (4 * (i + 1)) (paste out (4 * i) b (length b)) ≡ tab (4 * (i + 1)) (byte_of h)
+pub quad_more : (h out b : List ℕ) (i k : ℕ) → length out ≡ 32 → i < 8 → take (4 * i) out ≡ tab (4 * i) (byte_of h) → b ≡ to_be_bytes w32 (get_or h i 0)
+    → k ≡ 4 → take (4 * (i + 1)) (put_mid (4 * i) k out b) ≡ tab (4 * (i + 1)) (byte_of h)
 unfolding big_endian
-quad_more h out b i l s e q =
+quad_more h out b i k l s e q hk =
     let n : ℕ = 4 * i in
-    let four : length b ≡ 4 = ap length q ∙ tab-length 4 _ in
-    let all : take (length b) b ≡ b = take_all (length b) b (omega arith) in
-    let t : length (take n out) ≡ n = length-take-le n out (omega arith) in
-    let x : List ℕ = take n out ++ take (length b) b in
-    let m : length x ≡ 4 * (i + 1) = omega (arith, length-append (take n out) (take (length b) b), ap length all) in
-    let k : suc (suc (suc (suc n))) ≡ 4 * (i + 1) = omega arith in
-    take_at x _ (4 * (i + 1)) m
-    ∙ ap₂ (λ (u v : List ℕ). u ++ v) e (all ∙ q ∙ quad_is h i)
+    let four : b ≡ big_endian 4 (get_or h i 0) = q ∙ be_four (get_or h i 0) in
+    let m : length b ≡ 4 = ap length four ∙ tab-length 4 _ in
+    let t : suc (suc (suc (suc n))) ≡ 4 * (i + 1) = omega arith in
+    take-put_mid n k out b (4 * (i + 1)) (omega arith) (omega arith)
+    ∙ ap₂ (λ (u v : List ℕ). u ++ v) e (four ∙ quad_is h i)
     ∙ sym (tab_four n (byte_of h))
-    ∙ ap (λ (j : ℕ). tab j (byte_of h)) k
+    ∙ ap (λ (j : ℕ). tab j (byte_of h)) t
