@@ -4,14 +4,13 @@
 -- a block of the key has 64 bytes, so its hash value stands for it. Assumes nothing.
 use mathlib.Core.Path.{◌≡◌, sym, ap, ◌∙◌}
 use mathlib.Core.Logic.{◌≢◌}
-use mathlib.Core.List.{List, [], ◌∷◌, ◌++◌}
+use mathlib.Core.List.{List, [], ◌++◌}
 use Prim.Native.Nat.{ℕ, ◌+◌, ◌<◌}
 use native.Mathlib.Omega.{arith}
 use native.Mathlib.Decide.{dec_lt, ℕ_discrete}
-use native.Mathlib.Numerals.{add-one}
 use lib.Bits.{bit_xor, xor_zero_l}
 use lib.ListN.{length, get_or, set, take, replicate, length-set, length-take, get_or-eq_default}
-use lib.Seq.{length-take-le, take-suc, take-suc-set, take_all, get_or-take, get_or-set_same, get_or-set_other, ext_get_or}
+use lib.Seq.{length-take-le, take_all, get_or-take, get_or-set_same, get_or-set_other, ext_get_or}
 use borrow.Author.Tests.{le-leb}
 use Rattle.sha256.specs.Sha256.{tab, sha256}
 use Rattle.sha256.proofs.Laws.{sha-length, sha-bytes, tab-length, tab_at, tab_ext}
@@ -38,11 +37,6 @@ tag-bytes k m i = go (dec_lt i tag_size)
 pub short-key : (k : List ℕ) → length k ≡ 32 → key_block k ≡ k
 unfolding key_block
 short-key k h = rw (le-leb (length k) 64 (omega arith))
-
--- a copy of one byte more
-pub copy_more : (n : ℕ) (s d : List ℕ) → n < length s → n < length d → take n d ≡ take n s → take (n + 1) (set d n (get_or s n 0)) ≡ take (n + 1) s
-copy_more n s d h k e =
-    rw add-one (take-suc-set d n (get_or s n 0) k ∙ ap (λ (l : List ℕ). l ++ (get_or s n 0 ∷ [])) e ∙ sym (take-suc s n 0 h))
 
 -- ---- the key's block
 
