@@ -4,10 +4,10 @@ use mathlib.Core.Path.{◌≡◌, refl, sym, ap, ◌∙◌, subst}
 use mathlib.Core.Bool.{Bool, true, false, cond, ◌&&◌}
 use mathlib.Core.List.{List, [], ◌∷◌, ◌++◌}
 use mathlib.Core.Option.{Option, none, some}
-use Prim.Native.Nat.{ℕ, ◌/◌, ◌%◌, ◌<◌}
+use Prim.Native.Nat.{ℕ, ◌/◌, ◌%◌}
 use lib.Dec.{T, eqb}
-use lib.ListN.{length, get_or, drop}
-use lib.Seq.{ext_get_or}
+use lib.Pointwise.{pointwise}
+use lib.ListN.{get_or, drop}
 use borrow.Author.Tests.{eq-eqb, eqb-true}
 use Rattle.protocol.specs.declared.Stamp.{Stamp}
 use Rattle.format.specs.Format.{value4, via, seq, number4, byte, run}
@@ -46,15 +46,19 @@ pub same_refl : (a : List ℕ) → same_list a a ≡ true
 same_refl [] = refl
 same_refl (x ∷ xs) = rw (eq-eqb x x refl) (same_refl xs)
 
+-- comparing arrays or slices with `==` is comparing lists
+pub compared : (a b : List ℕ) → pointwise eqb a b ≡ same_list a b
+compared [] [] = refl
+compared [] (y ∷ ys) = refl
+compared (x ∷ xs) [] = refl
+compared (x ∷ xs) (y ∷ ys) = ap (λ (t : Bool). eqb x y && t) (compared xs ys)
+
 pub byte_differs : (a b : List ℕ) (i : ℕ) → (get_or a i 0 ≡ get_or b i 0 → ⊥) → same_list a b ≡ false
 byte_differs a b i h = by (same_list a b) refl
   where
     by : (t : Bool) → same_list a b ≡ t → t ≡ false
     by true e = absurd (h (ap (λ (x : List ℕ). get_or x i 0) (same_true a b e)))
     by false e = refl
-
-pub same_by-places : (a b : List ℕ) → length a ≡ length b → ((i : ℕ) → i < length a → get_or a i 0 ≡ get_or b i 0) → same_list a b ≡ true
-same_by-places a b l h = subst (λ (x : List ℕ). same_list a x ≡ true) (ext_get_or 0 a b l h) (same_refl a)
 
 -- ---- stamps and candidates
 

@@ -9,22 +9,8 @@ pub mod kinds; // kinds of packets
 pub mod rounds; // rounds of a call
 pub mod codes; // what a reply to store says
 
-// Whether two tags are the same.
-fn same_tag(a: [u8; hmac::TAG], b: [u8; hmac::TAG]) -> bool
-    ensures { result ≡ same_list a b }
-{
-    let mut i = 0;
-    while i < hmac::TAG {
-        if a[i] != b[i] {
-            return false;
-        }
-        i += 1;
-    }
-    true
-}
-
 // A stamp (timestamp): number, writer, and the writers'-key tag of both.
-#[derive(Clone, Copy)]
+#[derive(Clone, Copy, PartialEq, Eq)]
 pub struct Stamp {
     pub number: u32,
     pub writer: u8,
@@ -32,16 +18,15 @@ pub struct Stamp {
 }
 
 impl Stamp {
-    pub const BLANK: Stamp = Stamp {
-        number: 0,
-        writer: 0,
-        tag: [0; hmac::TAG],
-    };
-
-    pub fn blank() -> Stamp
+    // All zero.
+    pub const fn blank() -> Stamp
         ensures { result ≡ blank_stamp }
     {
-        Stamp::BLANK
+        Stamp {
+            number: 0,
+            writer: 0,
+            tag: [0; hmac::TAG],
+        }
     }
 
     pub fn new(number: u32, writer: u8, tag: [u8; hmac::TAG]) -> Stamp
@@ -55,32 +40,25 @@ impl Stamp {
     }
 
     // Equality is of all three: number, writer and tag.
+    #[tactic(auto, using(crate::proofs::Equal::compared), unfolding(crate::specs::Values::same_stamp))]
     pub fn same(self, other: Stamp) -> bool
         ensures { result ≡ same_stamp self other }
     {
-        if self.number != other.number {
-            return false;
-        }
-        if self.writer != other.writer {
-            return false;
-        }
-        let x = self.tag;
-        let y = other.tag;
-        same_tag(x, y)
+        self == other
     }
 
-    // The blank stamp is all zero.
+    #[tactic(auto, using(crate::proofs::Equal::compared), unfolding(crate::specs::Values::same_stamp))]
     pub fn is_blank(self) -> bool
         ensures { result ≡ same_stamp self blank_stamp }
     {
-        self.same(Stamp::BLANK)
+        self == Stamp::blank()
     }
 
     // The place of a number and a writer in the order of stamps, as one number.
     pub fn rank_of(number: u32, writer: u8) -> u64
         ensures { result ≡ rank_by number writer }
     {
-        256 * (number as u64) + (writer as u64)
+        256 * u64::from(number) + u64::from(writer)
     }
 
     // Order is by number, then writer.
