@@ -25,10 +25,8 @@ pub fn mul(a: u8, b: u8) -> u8
     ensures { result ≡ times a b }
 {
     let mut out = 0u8;
-    let mut n: u32 = 0;
-    while n < 8 {
+    for n in 0..8u32 {
         out = double(out) ^ (a & mask(b >> (7 - n)));
-        n += 1;
     }
     out
 }
@@ -38,7 +36,8 @@ pub fn inverse(a: u8) -> u8
     ensures { result ≡ inverseOf a }
 {
     if a == 0 {
-        return 0;
+        0
+    } else {
+        logarithms::power_of(255 - logarithms::log_of(a))
     }
-    logarithms::power_of(255 - logarithms::log_of(a))
 }

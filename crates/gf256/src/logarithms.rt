@@ -48,13 +48,8 @@ pub fn powers() -> [u8; 256]
 pub fn logs() -> [u8; 256]
     ensures { ((a : ℕ) → 0 < a → a < 256 → (get_or result a 0 < 255) × (power 3 (get_or result a 0) ≡ a)) × (get_or result 0 0 ≡ 0) }
 {
-    let table = LOG;
     let mut out = [0u8; 256];
-    let mut k: usize = 0;
-    while k < 255 {
-        out[k + 1] = table[k];
-        k += 1;
-    }
+    out[1..].copy_from_slice(&LOG);
     out
 }
 
@@ -71,5 +66,5 @@ pub(crate) fn log_of(a: u8) -> usize
     requires { 0 < a }
     ensures { (result < 255) × (power 3 result ≡ a) }
 {
-    LOG[(a as usize) - 1] as usize
+    usize::from(LOG[usize::from(a) - 1])
 }
