@@ -49,18 +49,16 @@ fn answer(memory: &mut [u8], number: u32) -> u64 {
     let key = [1u8; 32];
     let taken = server::take::take(memory, &key, &packet, &mut out);
     if taken.number != 0 {
-        return 100 + (taken.number as u64);
+        return 100 + u64::from(taken.number);
     }
-    wire::bytes::byte_at(&out, wire::sizes::HEAD) as u64
+    u64::from(wire::bytes::byte_at(&out, wire::sizes::HEAD))
 }
 
 // Stores of the stamps 1 to 32: how many the server keeps.
 fn fill(memory: &mut [u8]) -> u64 {
     let mut kept = 0;
-    let mut i = 0;
-    while i < 32 {
-        i += 1;
-        if answer(memory, i) == 0 {
+    for number in 1..=32 {
+        if answer(memory, number) == 0 {
             kept += 1;
         }
     }
@@ -104,10 +102,7 @@ fn collected(memory: &mut [u8]) -> u64 {
     let key = [1u8; 32];
     server::take::take(memory, &key, &packet, &mut out);
     let head = wire::values::head_at(wire::bytes::rest(&out, wire::sizes::HEAD));
-    if head.is_blank() {
-        return 1;
-    }
-    0
+    u64::from(head.is_blank())
 }
 
 // A blank server's candidate is blank, and a completed write's is not.
@@ -136,8 +131,7 @@ fn begun(n: usize) -> u64 {
         wire::bytes::part(&content, 0, n),
         &nonce,
     );
-    let outcome = started.outcome;
-    outcome.number as u64
+    u64::from(started.outcome.number)
 }
 
 // A content of no bytes is accepted (document 02, W-202; document 01's card has 6), as are one of a byte and the longest.
