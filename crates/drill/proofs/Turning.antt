@@ -6,7 +6,7 @@ use mathlib.Core.List.{List}
 use Prim.Native.Nat.{ℕ, zero, suc, ◌≤◌}
 use native.Mathlib.Omega.{arith}
 use lib.Dec.{eqb}
-use borrow.Author.Tests.{eq-eqb, ne_eqb, leb-true}
+use borrow.Author.Tests.{eq-eqb, leb-true}
 use Rattle.cluster.specs.Config.{shelf}
 use Rattle.cluster.specs.Ranges.{within, top_client, top_faults, packet_room}
 use Rattle.cluster.proofs.Tests.{and_both}
@@ -140,7 +140,7 @@ module _ (t k : ℕ) (l : Line) (w v : List ℕ) {x : Shown} where
   unfolding step_of
   step-blank e d = as-done _ (λ m. rw e) d
 
-  pub step-stop : (l.verb ≡ 1 → ⊥) → (l.verb ≡ 2 → ⊥) → (l.verb ≡ 3 → ⊥) → (l.verb ≡ 4 → ⊥)
-      → DoneIn t (λ m. do_bytes real (drill_shelf t) m (give-up l.client)) w v x → StepsIn t (λ m. step_of (drill_shelf t) m k l) w v x k
+  pub step-stop : l.verb ≡ 5 → DoneIn t (λ m. do_bytes real (drill_shelf t) m (give-up l.client)) w v x → StepsIn t
+      (λ m. step_of (drill_shelf t) m k l) w v x k
   unfolding step_of
-  step-stop n1 n2 n3 n4 d = as-done _ (λ m. rw (ne_eqb l.verb 1 n1, ne_eqb l.verb 2 n2, ne_eqb l.verb 3 n3, ne_eqb l.verb 4 n4)) d
+  step-stop e d = as-done _ (λ m. rw e) d

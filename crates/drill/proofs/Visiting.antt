@@ -1,12 +1,13 @@
 -- A visit in the work area: the packet made of the client's slot, the server's step on its memory and the client's on its slot, one after the other.
 -- Each is the definition's step, since the area holds what the parties hold. Assumes nothing.
-use mathlib.Core.Path.{◌≡◌, refl, ap, ◌∙◌, subst}
+use mathlib.Core.Path.{◌≡◌, refl, ap, sym, ◌∙◌, subst}
 use mathlib.Core.Bool.{true}
 use mathlib.Core.List.{List, []}
-use Prim.Native.Nat.{ℕ, zero, suc, ◌≤◌}
+use Prim.Native.Nat.{ℕ, zero, suc, ◌+◌, ◌≤◌, ◌<◌}
 use native.Mathlib.Omega.{arith}
 use native.Mathlib.Numerals.{add-one}
-use lib.ListN.{take, replicate}
+use lib.ListN.{length, take, get_or, replicate, length-map}
+use Rattle.std.proofs.lemmas.List.{ext_get_or}
 use Rattle.cluster.specs.Config.{up_to, shelf}
 use Rattle.cluster.specs.Ranges.{within, top_client, most_servers, key_size, packet_room, content_room, top_faults}
 use Rattle.cluster.specs.declared.Outcome.{Outcome}
@@ -36,6 +37,15 @@ key_of_lem t zero h = absurd (omega arith)
 key_of_lem t (suc i) h =
     key_at _ i ∙ get_d_map (replicate key_size) (up_to most_servers) i 0 [] (omega (arith, up_to-length most_servers))
     ∙ ap (replicate key_size) (up_to_at most_servers i (omega arith) ∙ add-one i)
+
+-- the keys, place by place
+pub keys_are : (t : ℕ) (ks : List (List ℕ)) → length ks ≡ most_servers → ((i : ℕ) → i < most_servers → get_or ks i [] ≡ replicate key_size (i + 1))
+    → ks ≡ (drill_shelf t).keys
+unfolding drill_shelf
+keys_are t ks l h =
+    ext_get_or [] ks _ (l ∙ sym (simp (length-map, up_to-length)))
+    (λ i k. h i (omega arith) ∙ sym (get_d_map (replicate key_size) (up_to most_servers) i 0 [] (omega (arith, up_to-length most_servers))
+    ∙ ap (replicate key_size) (up_to_at most_servers i (omega arith))))
 
 pub inside : (lo hi x : ℕ) → (lo ≤ x) × (x ≤ hi) → within lo hi x ≡ true
 inside lo hi x h = within_in lo hi x h.0 h.1

@@ -1,25 +1,20 @@
 -- What private functions promise each other; no public contract names these.
--- What the code answers of a sheet, in document 01's numbers.
-use Rattle.std.proofs.Math.Option.{Option, none, some}
-use Rattle.std.specs.Prelude.{ℕ}
+-- What the code reads of a sheet, in the words of the definitions.
+use Rattle.std.proofs.Math.Option as maybe
+use Rattle.std.specs.Prelude.{ℕ, Option, None, Some}
 use Rattle.drill.specs.declared.sheet.Line.{Line}
-use Rattle.drill.specs.declared.sheet.Read.{Read}
-use Rattle.drill.specs.declared.sheet.Read.TheVariants as reads
-use Rattle.drill.specs.Sheet.{bad_line}
+use Rattle.drill.specs.declared.verbs.Verb.{Verb}
+use Rattle.drill.specs.declared.verbs.Verb.TheVariants as verbs
 
--- for each case of an enum its number, and the value told with it
+-- a line that was read
+abbrev pub line_of : Option Line → maybe.Option Line
+line_of None = maybe.none
+line_of (Some l) = maybe.some l
 
--- 0 and what was read, or 17 and nothing
-pub record SheetAnswer (A : Type 0) : Type 0 where
-  pub number : ℕ
-  pub value : Option A
-
--- a line of its form, or another
-abbrev pub read_answer : Read → SheetAnswer Line
-read_answer (reads.Line l) = record { number = 0; value = some l }
-read_answer reads.Broken = record { number = bad_line; value = none }
-
--- the answer that is due, by what stands in the sheet
-abbrev pub sheet_answer : {A : Type 0} → Option A → SheetAnswer A
-sheet_answer (some v) = record { number = 0; value = some v }
-sheet_answer none = record { number = bad_line; value = none }
+abbrev pub verb_number : Verb → ℕ
+verb_number verbs.Shelf = 0
+verb_number verbs.Write = 1
+verb_number verbs.Read = 2
+verb_number verbs.Visit = 3
+verb_number verbs.Unlatest = 4
+verb_number verbs.Stop = 5

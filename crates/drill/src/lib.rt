@@ -22,10 +22,7 @@ pub const WORK: usize = area::WORK;
 fn rows_for(lines: usize) -> usize
     ensures { result ≡ rows_for_def lines }
 {
-    if lines < 2 {
-        return 1;
-    }
-    lines - 1
+    lines.saturating_sub(1).max(1)
 }
 
 // Runs a sheet and prints its listing at the start of the output. The work area is cleared first, and left all 00h.

@@ -14,10 +14,13 @@ pub(crate) fn put_step(out: &mut [u8], at: usize, n: u32, l: Line, round: u32, s
     requires { at + row_size ≤ length out.old }
     ensures { out.new ≡ put out.old at (step_row n l round s) }
 {
-    let values = [
-        n, l.verb, l.client, round, s.result, s.stamp, s.length, s.first,
-    ];
-    let _ = columns::printing::put_row(out, at, &values);
+    columns::printing::put_row(
+        out,
+        at,
+        &[
+            n, l.verb, l.client, round, s.result, s.stamp, s.length, s.first,
+        ],
+    );
 }
 
 // The line that ends the run.
@@ -25,6 +28,5 @@ pub(crate) fn put_last(out: &mut [u8], at: usize, n: u32, res: u32)
     requires { at + row_size ≤ length out.old }
     ensures { out.new ≡ put out.old at (last_row n res) }
 {
-    let values = [n, 0, 0, 0, res, 0, 0, 0];
-    let _ = columns::printing::put_row(out, at, &values);
+    columns::printing::put_row(out, at, &[n, 0, 0, 0, res, 0, 0, 0]);
 }

@@ -9,7 +9,7 @@ ghost use Rattle.drill.specs.Area.{Stands};
 ghost use Rattle.drill.specs.Moves.{RowIn, RowsAs};
 
 use crate::lines::{first_line, step_line};
-use crate::sheet::{Line, Read};
+use crate::sheet::Line;
 use columns::lines::next_line;
 
 // The results of a line that ends the run: its form is another, or only its t is wrong.
@@ -22,11 +22,8 @@ pub(crate) fn blank_servers(work: &mut [u8], t: usize)
     requires { ((1 ≤ t) × (t ≤ top_faults)) × ((length work.old ≡ work_size) × (work.old ≡ replicate (length work.old) 0)) }
     ensures { Stands t work.new (start (drill_shelf t)).machines }
 {
-    let n = cluster::servers(t as u8);
-    let mut b = 1;
-    while b <= n {
-        crate::servers::blank(work, t, b);
-        b += 1;
+    for server in 1..=cluster::servers(t as u8) {
+        crate::servers::blank(work, t, server);
     }
 }
 
@@ -63,11 +60,11 @@ pub(crate) fn rows_from(
     ensures { RowsAs t (lines (drop from sheet.now)) out.old out.new result }
 {
     let mut at = from;
-    let mut n = 2u32;
-    let mut begun = 0u32;
+    let mut n = 2;
+    let mut begun = 0;
     let mut done = 0;
     while at < sheet.len() {
-        let Read::Line(l) = step_line(sheet, at, n) else {
+        let Some(l) = step_line(sheet, at, n) else {
             crate::rows::put_last(out, done, n, BAD_LINE);
             return done + crate::rows::ROW;
         };
@@ -85,10 +82,10 @@ pub(crate) fn list(sheet: &[u8], out: &mut [u8], work: &mut [u8]) -> usize
         × (row_size * rows_for_def (length (lines sheet.now)) ≤ length out.old) }
     ensures { ListsAs sheet.now out.old out.new result }
 {
-    if sheet.len() == 0 {
+    if sheet.is_empty() {
         return 0;
     }
-    let Read::Line(l) = first_line(sheet) else {
+    let Some(l) = first_line(sheet) else {
         crate::rows::put_last(out, 0, 1, BAD_LINE);
         return crate::rows::ROW;
     };

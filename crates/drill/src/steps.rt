@@ -10,6 +10,7 @@ ghost use Rattle.drill.specs.Moves.{DoneIn, StepsIn, RoundIn};
 
 use crate::sheet::Line;
 use crate::shown::Shown;
+use crate::verbs::Verb;
 use crate::{area, shown};
 
 // What a step shows, and how many writes have begun after it.
@@ -90,19 +91,19 @@ pub(crate) fn step(work: &mut [u8], t: usize, begun: u32, l: Line) -> Moved
     requires { ((((1 ≤ t) × (t ≤ top_faults)) × (length work.old ≡ work_size)) × (begun < top_number)) × (is_step_def l ≡ true) }
     ensures { StepsIn t (λ m. step_of (drill_shelf t) m begun l) work.old work.new result.shown result.begun }
 {
-    let verb = l.verb;
     let client = l.client as usize;
     let server = l.server as usize;
-    let s = match verb {
-        crate::verbs::WRITE => {
+    let shown = match Verb::of(l.verb).unwrap() {
+        Verb::Write => {
             return write(work, t, begun, client, l.length as usize, l.fill as u8);
         }
-        crate::verbs::READ => read(work, t, client),
-        crate::verbs::VISIT => crate::visits::visit_line(work, t, client, server),
-        crate::verbs::UNLATEST => crate::servers::blank_line(work, t, server),
-        _ => stop(work, t, client),
+        Verb::Read => read(work, t, client),
+        Verb::Visit => crate::visits::visit_line(work, t, client, server),
+        Verb::Unlatest => crate::servers::blank_line(work, t, server),
+        Verb::Stop => stop(work, t, client),
+        Verb::Shelf => unreachable!(),
     };
-    Moved { shown: s, begun }
+    Moved { shown, begun }
 }
 
 // The client's round, 0 where no client from 1 to 16 is named.

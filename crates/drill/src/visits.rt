@@ -1,7 +1,7 @@
 // A visit: a client's packet to a server, and its reply back.
-ghost use Rattle.std.specs.Prelude.{◌≡◌, ◌≤◌, length};
+ghost use Rattle.std.specs.Prelude.{◌≡◌, ◌+◌, ◌≤◌, ◌<◌, length, replicate};
 ghost use Rattle.cluster.specs.Config.{shelf};
-ghost use Rattle.cluster.specs.Ranges.{top_client, top_faults};
+ghost use Rattle.cluster.specs.Ranges.{most_servers, top_client, top_faults, key_size};
 ghost use Rattle.protocol.specs.ClientBytes.{client_make};
 ghost use Rattle.drill.specs.Listing.{work_size};
 ghost use Rattle.drill.specs.Steps.{drill_shelf, lent_to, visited, visit_line_def};
@@ -16,21 +16,12 @@ use wire::bytes::part;
 fn server_keys() -> [[u8; cluster::KEY]; cluster::MOST_SERVERS]
     ensures { result ≡ (drill_shelf 0).keys }
 {
-    [
-        [1u8; cluster::KEY],
-        [2u8; cluster::KEY],
-        [3u8; cluster::KEY],
-        [4u8; cluster::KEY],
-        [5u8; cluster::KEY],
-        [6u8; cluster::KEY],
-        [7u8; cluster::KEY],
-        [8u8; cluster::KEY],
-        [9u8; cluster::KEY],
-        [10u8; cluster::KEY],
-        [11u8; cluster::KEY],
-        [12u8; cluster::KEY],
-        [13u8; cluster::KEY],
-    ]
+    std::array::from_fn(
+        |i|
+            requires { i < most_servers }
+            ensures { result ≡ replicate key_size (i + 1) }
+        { [i as u8 + 1; cluster::KEY] },
+    )
 }
 
 // The writers' key as it is lent to a client: zeros to one that holds no keys.

@@ -1,0 +1,9 @@
+-- A row of eight values. Assumes nothing.
+use Rattle.std.proofs.Common.{refl}
+use Rattle.drill.specs.Listing.{step_row}
+use Rattle.drill.proofs.Running.{row_put}
+use Rattle.drill.proofs.rows.put_step.Goals as goal
+
+pub returns : goal.returns
+unfolding step_row
+returns c = row_put c.args.out.now c.args.at _ refl c.requires c.put_row.ensures
