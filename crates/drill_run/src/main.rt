@@ -13,16 +13,13 @@ const SHEET: usize = 65536;
 // Room for the rows of as many lines of 41 bytes as a sheet can have.
 const LISTING: usize = 131072;
 
+// The proof of run does not close over arrays of this size: it would count their bytes. So a function makes each.
 fn output() -> [u8; LISTING] {
-    [0u8; LISTING]
+    [0; LISTING]
 }
 
 fn work_area() -> [u8; drill::WORK] {
-    [0u8; drill::WORK]
-}
-
-fn say(rt: &impl Eprint, words: &str) -> io::Result<()> {
-    rt.eprint(words)
+    [0; drill::WORK]
 }
 
 fn run(rt: &(impl Print + Eprint), sheet: &[u8]) -> io::Result<()> {
@@ -30,16 +27,13 @@ fn run(rt: &(impl Print + Eprint), sheet: &[u8]) -> io::Result<()> {
     let mut work = work_area();
     let done = drill::drill(sheet, &mut out, &mut work);
     if done.number != 0 {
-        return say(
-            rt,
-            "drill_run: too many lines: a listing has at most 2,016 rows here\n",
-        );
+        return rt.eprint("drill_run: too many lines: a listing has at most 2,016 rows here\n");
     }
     if rt
         .write_all(wire::bytes::part(&out, 0, done.count))
         .is_err()
     {
-        return say(rt, "drill_run: the listing can't be written\n");
+        return rt.eprint("drill_run: the listing can't be written\n");
     }
     Ok(())
 }
@@ -50,20 +44,19 @@ fn read_full(input: &mut impl Read, buffer: &mut [u8]) -> io::Result<usize>
 {
     let mut done = 0;
     while done < buffer.len() {
-        let n = input.read(&mut buffer[done..])?;
-        if n == 0 {
-            break;
+        match input.read(&mut buffer[done..])? {
+            0 => break,
+            n => done += n,
         }
-        done += n;
     }
     Ok(done)
 }
 
 fn main(rt: HostRuntime) -> io::Result<()> {
-    let mut sheet = [0u8; SHEET];
+    let mut sheet = [0; SHEET];
     let n = read_full(&mut rt.reader(), &mut sheet)?;
     if n == SHEET {
-        return say(&rt, "drill_run: a sheet has at most 65,535 bytes here\n");
+        return rt.eprint("drill_run: a sheet has at most 65,535 bytes here\n");
     }
     run(&rt, &sheet[..n])
 }
