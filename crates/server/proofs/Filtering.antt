@@ -29,8 +29,8 @@ use Rattle.wire.specs.Make.{packet_step}
 use Rattle.wire.proofs.Runs.{stamp-padded, padded-whole}
 use Rattle.server.specs.declared.memory.Top.{Top}
 use Rattle.server.specs.declared.memory.Opened.{Opened}
-use Rattle.server.specs.declared.filter.Chosen.{Chosen}
-use Rattle.server.specs.declared.filter.Chosen.TheVariants as chosen
+use Rattle.std.specs.declared.option.Option as rust
+use Rattle.std.specs.Prelude.{Some, None}
 use Rattle.server.specs.Reads.{OpenedAs}
 use Rattle.server.specs.Answers.{memory_in, ToServer, reply_head_def, raised_bytes}
 use Rattle.server.specs.Ranks.{slot_of}
@@ -88,26 +88,26 @@ module _ {d : List ℕ} (bs : Bytes d) (key packet : List ℕ) (ps : Bytes packe
       (w o.writes o.holds (ap (λ (z : Stamp). length z.tag) q ∙ l) ∙ ap
       (λ (z : Stamp). packet_step (reply_head_def h 10) ((held_f s).print (record { stamp = z; share = lookup z o.writes })) [] output) q)
 
-  module _ {u v : List ℕ} {m : ℕ} (p : u ≡ drop head_size packet) (q : v ≡ drop 1 u) (c : m ≡ get_or u 0 0) (f : Chosen)
+  module _ {u v : List ℕ} {m : ℕ} (p : u ≡ drop head_size packet) (q : v ≡ drop 1 u) (c : m ≡ get_or u 0 0) (f : rust.Option ℕ)
       (g : ChosenAs d key (told_to h n e top) v m f) where
     in-packet : v ≡ Y
     in-packet = q ∙ ap (drop 1) p
 
-    choice : {x : Chosen} → f ≡ x → ChosenIs s Y kept x
+    choice : {x : rust.Option ℕ} → f ≡ x → ChosenIs s Y kept x
     choice {x} t =
         let i : m ≡ M = c ∙ ap (λ (z : List ℕ). get_or z 0 0) p in
         let j : ChosenAs d key (told_to h n e top) Y M f = subst (λ (z : List ℕ). ChosenAs d key (told_to h n e top) z M f) in-packet
         (subst (λ (z : ℕ). ChosenAs d key (told_to h n e top) v z f) i g) in
         subst (ChosenIs s Y kept) t (j o (listed h packet dec k ps))
 
-    nothing_here : f ≡ chosen.Nothing → {a : Stamp} → a ≡ blank_stamp → {r : Outcome} {out : List ℕ} → HeldAs d h (told_to h n e top) a output
+    nothing_here : f ≡ None → {a : Stamp} → a ≡ blank_stamp → {r : Outcome} {out : List ℕ} → HeldAs d h (told_to h n e top) a output
         (record { result = r; output = out })
         → record { result = r; memory = d; output = out } ≡ acted_on real d key packet output (some (memory_in o)) (decode packet)
     nothing_here t a w =
         answered (blank_candidate s) (choice t) (length-replicate {A = ℕ} tag_size 0) a
         (unchanged o bs ∙ ap (λ (z : Server). encode_memory (memory_of h.t h.server z)) (sym (blank_raises s server))) w
 
-    chosen_here : {i : ℕ} → f ≡ chosen.At i → {x : List ℕ} → x ≡ slot_of s v i → {a : Stamp} → a ≡ stamp_at_def (padded stamp_size x) → {r : Outcome}
+    chosen_here : {i : ℕ} → f ≡ Some i → {x : List ℕ} → x ≡ slot_of s v i → {a : Stamp} → a ≡ stamp_at_def (padded stamp_size x) → {r : Outcome}
         {m₁ out : List ℕ}
         → HeldAs d h (told_to h n e top) a output (record { result = r; output = out }) → m₁ ≡ raised_bytes d x
         → record { result = r; memory = m₁; output = out } ≡ acted_on real d key packet output (some (memory_in o)) (decode packet)
@@ -126,8 +126,8 @@ module _ {d : List ℕ} (bs : Bytes d) (key packet : List ℕ) (ps : Bytes packe
 
 module _ {d : List ℕ} (bs : Bytes d) (key packet : List ℕ) (ps : Bytes packet) (output : List ℕ) (h : Head) {told : Opened} (o : OpenedAs d told)
     (own : ToServer h told) (dec : decode packet ≡ some (packet_at h packet)) (k : h.kind ≡ 9) (room : packet_room ≤ length output)
-    {u v : List ℕ} {m : ℕ} (p : u ≡ drop head_size packet) (q : v ≡ drop 1 u) (c : m ≡ get_or u 0 0) (f : Chosen) (g : ChosenAs d key told v m f) where
-  pub filter-nothing : f ≡ chosen.Nothing → {a : Stamp} → a ≡ blank_stamp → {r : Outcome} {out : List ℕ}
+    {u v : List ℕ} {m : ℕ} (p : u ≡ drop head_size packet) (q : v ≡ drop 1 u) (c : m ≡ get_or u 0 0) (f : rust.Option ℕ) (g : ChosenAs d key told v m f) where
+  pub filter-nothing : f ≡ None → {a : Stamp} → a ≡ blank_stamp → {r : Outcome} {out : List ℕ}
       → HeldAs d h told a output (record { result = r; output = out })
       → record { result = r; memory = d; output = out } ≡ acted_on real d key packet output (some (memory_in o)) (decode packet)
   filter-nothing t {a} b {r} {out} w =
@@ -136,7 +136,7 @@ module _ {d : List ℕ} (bs : Bytes d) (key packet : List ℕ) (ps : Bytes packe
       → (o : OpenedAs d z) → answer ≡ acted_on real d key packet output (some (memory_in o)) (decode packet))
       (λ n e top g w o. nothing_here bs key packet ps output h o dec k room p q c f g t b w) g w o
 
-  pub filter-chosen : {i : ℕ} → f ≡ chosen.At i → {x : List ℕ} → x ≡ slot_of (shelf told.t) v i → {a : Stamp} → a ≡ stamp_at_def (padded stamp_size x)
+  pub filter-chosen : {i : ℕ} → f ≡ Some i → {x : List ℕ} → x ≡ slot_of (shelf told.t) v i → {a : Stamp} → a ≡ stamp_at_def (padded stamp_size x)
       → {r : Outcome} {m₁ out : List ℕ} → HeldAs d h told a output (record { result = r; output = out }) → m₁ ≡ raised_bytes d x
       → record { result = r; memory = m₁; output = out } ≡ acted_on real d key packet output (some (memory_in o)) (decode packet)
   filter-chosen {i} t {x} y {a} b {r} {m₁} {out} w raised =

@@ -4,7 +4,7 @@ use mathlib.Core.Path.{◌≡◌, refl, sym, ap, ◌∙◌, subst}
 use mathlib.Core.Bool.{Bool, true, false, cond, ◌&&◌}
 use mathlib.Core.List.{List, [], ◌∷◌, ◌++◌}
 use mathlib.Core.Option.{Option, none, some}
-use Prim.Native.Nat.{ℕ, ◌+◌, ◌*◌, ◌≤◌, ◌<◌}
+use Prim.Native.Nat.{ℕ, ◌+◌, ◌*◌, ◌≤◌, ◌<◌, max}
 use native.Mathlib.Omega.{arith}
 use lib.Dec.{ltb}
 use lib.ListN.{drop}
@@ -24,27 +24,11 @@ use Rattle.protocol.proofs.Equal.{same_true, same_printed}
 use Rattle.format.proofs.Formats.{value4-print}
 use Rattle.server.specs.declared.memory.Top.{Top}
 use Rattle.server.specs.declared.memory.Opened.{Opened}
-use Rattle.server.specs.declared.memory.Found.{Found}
-use Rattle.server.specs.declared.memory.Found.TheVariants as found
-use Rattle.server.specs.Reads.{first_with, FindIs, SearchAs, Holds, FindAs, max_of, highest_of, raised_top}
+use Rattle.std.specs.declared.option.Option as rust
+use Rattle.std.specs.Prelude.{Some, None}
+use Rattle.server.specs.Reads.{first_with, FindIs, SearchAs, Holds, FindAs, highest_of, raised_top}
 
 -- ---- keys
-
-pub max_left : (a b : ℕ) → a ≤ max_of a b
-unfolding max_of
-max_left a b = at-cond (ltb a b) b a (λ z. a ≤ z) (λ e. omega (arith, ltb-true a b e)) (λ e. omega arith)
-
-pub max_right : (a b : ℕ) → b ≤ max_of a b
-unfolding max_of
-max_right a b = at-cond (ltb a b) b a (λ z. b ≤ z) (λ e. omega arith) (λ e. omega (arith, ltb-false a b e))
-
-pub max_is_left : (a b : ℕ) → b ≤ a → max_of a b ≡ a
-unfolding max_of
-max_is_left a b h = rw (le-ltb a b h)
-
-pub max_is_right : (a b : ℕ) → a < b → max_of a b ≡ b
-unfolding max_of
-max_is_right a b h = rw (lt-ltb a b h)
 
 pub raised-higher : (top : Top) (k at : ℕ) → top.key < k → raised_top top k at ≡ record { key = k; at = at }
 unfolding raised_top
@@ -58,12 +42,12 @@ raised-same top k at h = rw (le-ltb top.key k h)
 highest_least : (k : ℕ) (ws : List Write) → k ≤ highest_of k ws
 unfolding highest_of
 highest_least k [] = omega arith
-highest_least k (w ∷ ws) = omega (arith, max_left k (rank w.stamp), highest_least (max_of k (rank w.stamp)) ws)
+highest_least k (w ∷ ws) = omega (arith, highest_least (max k (rank w.stamp)) ws)
 
-pub highest_more : (k : ℕ) (ws : List Write) (w : Write) → highest_of k (ws ++ w ∷ []) ≡ max_of (highest_of k ws) (rank w.stamp)
+pub highest_more : (k : ℕ) (ws : List Write) (w : Write) → highest_of k (ws ++ w ∷ []) ≡ max (highest_of k ws) (rank w.stamp)
 unfolding highest_of
 highest_more k [] w = refl
-highest_more k (v ∷ ws) w = highest_more (max_of k (rank v.stamp)) ws w
+highest_more k (v ∷ ws) w = highest_more (max k (rank v.stamp)) ws w
 
 -- the key of a printed stamp
 pub key_printed : (a : Stamp) → rank (stamp_at_def (stamp_f.print a)) ≡ rank a
@@ -88,12 +72,12 @@ pub first_above : (key : List ℕ) (k : ℕ) (ws : List Write) → highest_of k 
 unfolding first_with highest_of
 first_above key k [] h = refl
 first_above key k (w ∷ ws) h =
-    let m : ℕ = max_of k (rank w.stamp) in
+    let m : ℕ = max k (rank w.stamp) in
     let f : same_list (stamp_f.print w.stamp) key ≡ false =
     untrue _ (λ e.
     let q : rank w.stamp ≡ rank (stamp_at_def key) = sym (key_printed w.stamp) ∙ ap (λ (x : List ℕ). rank (stamp_at_def x))
     (same_true (stamp_f.print w.stamp) key e) in
-    omega (arith, q, h, max_right k (rank w.stamp), highest_least m ws)) in
+    omega (arith, q, h, highest_least m ws)) in
     rw f (first_above key m ws h)
 
 -- the first of two lists' writes
@@ -111,21 +95,21 @@ module _ (d : List ℕ) (told : Opened) (y : List ℕ) {x : List ℕ} (p : x ≡
   abbrev top : Top
   top = told.top
 
-  found_as : (r : Found) → ((ws : List Write) → Holds d told ws → FindIs (shelf told.t) d (first_with x ws) r) → FindAs d told y r
+  found_as : (r : rust.Option ℕ) → ((ws : List Write) → Holds d told ws → FindIs (shelf told.t) d (first_with x ws) r) → FindAs d told y r
   found_as r f ws h = subst (λ (z : List ℕ). FindIs (shelf told.t) d (first_with z ws) r) p (f ws h)
 
-  pub find-above : {k : ℕ} → k ≡ rank (stamp_at_def y) → top.key < k → FindAs d told y found.Nothing
+  pub find-above : {k : ℕ} → k ≡ rank (stamp_at_def y) → top.key < k → FindAs d told y None
   find-above {k} q l =
       let e : k ≡ rank (stamp_at_def x) = q ∙ sym (rank-part y) ∙ ap (λ (z : List ℕ). rank (stamp_at_def z)) (sym p) in
-      found_as found.Nothing (λ ws h. first_above x 0 ws (omega (arith, e, l, h.up.key)))
+      found_as None (λ ws h. first_above x 0 ws (omega (arith, e, l, h.up.key)))
 
   pub find-highest : {r : Bool} → r ≡ (ltb 0 top.at && same_list (bytes_at (drop top.at d) 0 stamp_size) x) → r ≡ true
-      → FindAs d told y (found.At top.at)
+      → FindAs d told y (Some top.at)
   find-highest c e =
       let both = and_both (ltb 0 top.at) (same_list (bytes_at (drop top.at d) 0 stamp_size) x) (sym c ∙ e) in
-      found_as (found.At top.at) (λ ws h. h.up.first (ltb-true 0 top.at both.0) x both.1)
+      found_as (Some top.at) (λ ws h. h.up.first (ltb-true 0 top.at both.0) x both.1)
 
-  pub find_searched : (r : Found) → SearchAs (shelf told.t) told.count d x r → FindAs d told y r
+  pub find_searched : (r : rust.Option ℕ) → SearchAs (shelf told.t) told.count d x r → FindAs d told y r
   find_searched r f = found_as r (λ ws h. f ws told.end h.there)
 
 -- the bytes at a place, as the code compares them; at place 0 none stand

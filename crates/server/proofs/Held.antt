@@ -25,8 +25,8 @@ use Rattle.wire.specs.Places.{length_at, share_size_def, write_at_def}
 use Rattle.wire.specs.Make.{placed, put_step_def, packet_step}
 use Rattle.wire.proofs.Put.{placed-wrote}
 use Rattle.server.specs.declared.memory.Opened.{Opened}
-use Rattle.server.specs.declared.memory.Found.{Found}
-use Rattle.server.specs.declared.memory.Found.TheVariants as found
+use Rattle.std.specs.declared.option.Option as rust
+use Rattle.std.specs.Prelude.{Some, None}
 use Rattle.server.specs.Reads.{first_with, FindIs, FindAs}
 use Rattle.server.specs.Answers.{reply_head_def}
 use Rattle.server.specs.Filter.{share_bytes_def, HeldAs}
@@ -121,19 +121,19 @@ module _ (d : List ℕ) (bs : Bytes d) (h : Head) (told : Opened) (a : Stamp) (o
       ∙ ap (λ (y : List ℕ). packet_step (reply_head_def h 10) y [] output) (v ∙ ap (λ (y : Option Share). (held_f s).print
       (record { stamp = a; share = y })) (sym e))
 
-  pub held-nothing : (f : Found) → FindAs d told z f → f ≡ found.Nothing → {second : List ℕ} → second ≡ bytes_at d 0 0
+  pub held-nothing : (f : rust.Option ℕ) → FindAs d told z f → f ≡ None → {second : List ℕ} → second ≡ bytes_at d 0 0
       → {g : Head} {w : Filled} → g ≡ reply_head_def h 10 → w ≡ packet_step g z second output → HeldAs d h told a output w
   held-nothing f find t {second} v i u ws m l =
-      let k : first_with (bytes_at z 0 stamp_size) ws ≡ none = subst (λ (y : Found). FindIs s d (first_with (bytes_at z 0 stamp_size) ws) y) t
+      let k : first_with (bytes_at z 0 stamp_size) ws ≡ none = subst (λ (y : rust.Option ℕ). FindIs s d (first_with (bytes_at z 0 stamp_size) ws) y) t
       (find ws m) in
       replies ws none (sym (found_for ws l) ∙ ap share_in_def k) z second i u
       (ap (λ (y : List ℕ). z ++ y) (v ∙ part_none d 0) ∙ append-nil z ∙ p ∙ sym (held_none s a))
 
-  pub held_share : (f : Found) → FindAs d told z f → {at : ℕ} → f ≡ found.At at → {first second : List ℕ} → first ≡ stamp_f.print a ++
+  pub held_share : (f : rust.Option ℕ) → FindAs d told z f → {at : ℕ} → f ≡ Some at → {first second : List ℕ} → first ≡ stamp_f.print a ++
       1 ∷ []
       → second ≡ share_bytes_def s d at → {g : Head} {w : Filled} → g ≡ reply_head_def h 10 → w ≡ packet_step g first second output → HeldAs d h told a output w
   held_share f find {at} t {first} {second} y v i u ws m l =
-      let k = subst (λ (y : Found). FindIs s d (first_with (bytes_at z 0 stamp_size) ws) y) t (find ws m) in
+      let k = subst (λ (y : rust.Option ℕ). FindIs s d (first_with (bytes_at z 0 stamp_size) ws) y) t (find ws m) in
       let x : Share = (write_at_def s (drop at d)).share in
       let b : second ≡ (share_f s).print x = v ∙ share-there s k.there bs in
       replies ws (some x) (sym (found_for ws l) ∙ ap share_in_def k.first) first second i u

@@ -4,7 +4,7 @@ use mathlib.Core.Path.{◌≡◌, refl, sym, ap, ◌∙◌, subst}
 use mathlib.Core.Bool.{Bool, true, false, not, ◌&&◌}
 use mathlib.Core.List.{List, [], ◌∷◌, ◌++◌}
 use mathlib.Core.Option.{none}
-use Prim.Native.Nat.{ℕ, ◌+◌, ◌-◌, ◌≤◌, ◌<◌}
+use Prim.Native.Nat.{ℕ, ◌+◌, ◌-◌, ◌≤◌, ◌<◌, max}
 use native.Mathlib.Omega.{arith}
 use native.Mathlib.Nat.{sub-zero}
 use lib.Dec.{T, ltb}
@@ -25,12 +25,12 @@ use Rattle.format.proofs.Walks.{many-next, many_stops, many_none, many_snoc}
 use Rattle.wire.specs.Places.{write_at_def}
 use Rattle.server.specs.declared.memory.Top.{Top}
 use Rattle.server.specs.declared.memory.Opened.{Opened}
-use Rattle.server.specs.declared.memory.Found.{Found}
-use Rattle.server.specs.declared.memory.Found.TheVariants as found
+use Rattle.std.specs.declared.option.Option as rust
+use Rattle.std.specs.Prelude.{Some, None}
 use Rattle.server.specs.declared.memory.Writes.TheVariants as writes
 use Rattle.server.specs.Reads.{Stored, first_with, FindIs, highest_of, TopOf, no_top, FindAs, raised_top, RepeatsAs, NoWrites, WritesAs}
 use Rattle.server.proofs.Walk.{stamp-bytes}
-use Rattle.server.proofs.Finding.{max_is_left, max_is_right, highest_more, key_printed, first_above, first-append, share_in_def, first-held}
+use Rattle.server.proofs.Finding.{highest_more, key_printed, first_above, first-append, share_in_def, first-held}
 
 -- ---- whether a stamp stands before
 
@@ -49,14 +49,14 @@ module _ (d : List ℕ) (told : Opened) (bs : Bytes d) {x : List ℕ} (p : x ≡
       ∙ first-held (stamp_at_def (drop at d))
       ws
 
-  pub repeats_none : {r : Found} → r ≡ found.Nothing → FindAs d told x r → RepeatsAs d told false
+  pub repeats_none : {r : rust.Option ℕ} → r ≡ None → FindAs d told x r → RepeatsAs d told false
   repeats_none t g ws next h f =
-      let o : first_with (bytes_at x 0 stamp_size) ws ≡ none = subst (λ (y : Found). FindIs s d (first_with (bytes_at x 0 stamp_size) ws) y) t (g ws h) in
+      let o : first_with (bytes_at x 0 stamp_size) ws ≡ none = subst (λ (y : rust.Option ℕ). FindIs s d (first_with (bytes_at x 0 stamp_size) ws) y) t (g ws h) in
       sym (ap is_some (sym (found-held f ws) ∙ ap share_in_def o))
 
-  pub repeats-found : {r : Found} {k : ℕ} → r ≡ found.At k → FindAs d told x r → RepeatsAs d told true
+  pub repeats-found : {r : rust.Option ℕ} {k : ℕ} → r ≡ Some k → FindAs d told x r → RepeatsAs d told true
   repeats-found t g ws next h f =
-      let o = subst (λ (y : Found). FindIs s d (first_with (bytes_at x 0 stamp_size) ws) y) t (g ws h) in
+      let o = subst (λ (y : rust.Option ℕ). FindIs s d (first_with (bytes_at x 0 stamp_size) ws) y) t (g ws h) in
       sym (ap is_some (sym (found-held f ws) ∙ ap share_in_def o.first))
 
 -- ---- the highest of the writes, with one more
@@ -70,7 +70,7 @@ module _ (s : Config) {d : List ℕ} (bs : Bytes d) (top : Top) (seen : List Wri
   above {k} e l =
       let w : Write = write_at_def s (drop at d) in
       record {
-        key = sym (highest_more 0 seen w ∙ max_is_right (highest_of 0 seen) (rank w.stamp) (omega (arith, u.key, e, l)) ∙ sym e);
+        key = sym (highest_more 0 seen w ∙ (let m : max (highest_of 0 seen) (rank w.stamp) ≡ rank w.stamp = omega (arith, u.key, e, l) in m) ∙ sym e);
         place = λ _. sym e;
         first = λ _ key g.
             let b : take stamp_size (drop at d) ≡ stamp_f.print w.stamp = unfold bytes_at in (stamp-bytes s f bs) in
@@ -91,7 +91,7 @@ module _ (s : Config) {d : List ℕ} (bs : Bytes d) (top : Top) (seen : List Wri
   below {k} e l =
       let w : Write = write_at_def s (drop at d) in
       record {
-        key = sym (highest_more 0 seen w ∙ max_is_left (highest_of 0 seen) (rank w.stamp) (omega (arith, u.key, e, l)) ∙ sym u.key);
+        key = sym (highest_more 0 seen w ∙ (let m : max (highest_of 0 seen) (rank w.stamp) ≡ highest_of 0 seen = omega (arith, u.key, e, l) in m) ∙ sym u.key);
         place = u.place;
         first = λ p key g. let o = u.first p key g in record {
           next = o.next;

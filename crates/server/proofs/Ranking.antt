@@ -4,7 +4,7 @@ use mathlib.Core.Path.{◌≡◌, refl, sym, ap, ◌∙◌, subst}
 use mathlib.Core.Bool.{Bool, true, false, cond}
 use mathlib.Core.List.{List, [], ◌∷◌}
 use mathlib.Core.Logic.{◌⊎◌, inl, inr}
-use Prim.Native.Nat.{ℕ, zero, suc, ◌+◌, ◌-◌, ◌*◌, ◌%◌, ◌≤◌, ◌<◌}
+use Prim.Native.Nat.{ℕ, zero, suc, ◌+◌, ◌-◌, ◌*◌, ◌%◌, ◌≤◌, ◌<◌, max}
 use native.Mathlib.Omega.{arith}
 use native.Mathlib.Nat.{mul-add-mod_self_left, mod-eq_of_lt, mul-le-mul_right}
 use native.Mathlib.Numerals.{add-one}
@@ -17,9 +17,7 @@ use Rattle.protocol.specs.Values.{candidate_size_def, rank}
 use Rattle.protocol.specs.View.{stamp_at_def}
 use Rattle.format.specs.Reading.{bytes_at}
 use Rattle.format.proofs.Answers.{at-cond, bytes_drop}
-use Rattle.server.specs.Reads.{max_of}
 use Rattle.server.specs.Ranks.{slot_of, rank_of, slot_with_def, under, next_rank_def}
-use Rattle.server.proofs.Finding.{max_left, max_right}
 
 -- the last of suc m, or one before it
 pub last_of : (j m : ℕ) → j < suc m → (j < m) ⊎ (j ≡ m)
@@ -110,33 +108,45 @@ module _ (s : Config) (y : List ℕ) where
 
   pub next_under : (n bound : ℕ) → 0 < next_rank_def s y n bound → (i : ℕ) × (i < n) × (next_rank_def s y n bound ≡ rank_of s y i) ×
       (next_rank_def s y n bound < bound)
-  unfolding next_rank_def max_of under
+  unfolding next_rank_def under
   next_under zero bound h = absurd (omega arith)
-  next_under (suc n) bound h =
-      at-cond (ltb (next_rank_def s y n bound) (cond (ltb (rank_of s y n) bound) (rank_of s y n) 0)) (cond (ltb (rank_of s y n) bound) (rank_of s y n) 0)
-      (next_rank_def s y n bound) Q
-      (λ e. at-cond (ltb (rank_of s y n) bound) (rank_of s y n) 0 Q (λ f l. (n, omega arith, refl, ltb-true _ _ f)) (λ f l. absurd (omega arith)))
-      (λ e l. let (i, k, p, q) = next_under n bound l in (i, omega arith, p, q)) h
+  next_under (suc n) bound h = go (ltb A U) refl h
     where
+      A : ℕ
+      A = next_rank_def s y n bound
+
+      U : ℕ
+      U = cond (ltb (rank_of s y n) bound) (rank_of s y n) 0
+
       Q : ℕ → Type 0
       Q z = 0 < z → (i : ℕ) × (i < suc n) × (z ≡ rank_of s y i) × (z < bound)
+
+      last : Q U
+      last = at-cond (ltb (rank_of s y n) bound) (rank_of s y n) 0 Q (λ f l. (n, omega arith, refl, ltb-true _ _ f)) (λ f l. absurd (omega arith))
+
+      before : Q A
+      before l = let (i, k, p, q) = next_under n bound l in (i, omega arith, p, q)
+
+      go : (c : Bool) → ltb A U ≡ c → Q (max A U)
+      go true e = let m : U ≡ max A U = omega (arith, ltb-true A U e) in subst Q m last
+      go false e = let m : A ≡ max A U = omega (arith, ltb-false A U e) in subst Q m before
 
   pub next-most : (n bound j : ℕ) → j < n → rank_of s y j < bound → rank_of s y j ≤ next_rank_def s y n bound
   unfolding next_rank_def
   next-most zero bound j h l = absurd (omega arith)
   next-most (suc n) bound j h l = go (last_of j n h) (λ k. next-most n bound j k l)
     where
-      here : rank_of s y n < bound → rank_of s y n ≤ max_of (next_rank_def s y n bound) (under (rank_of s y n) bound)
-      here k = omega (arith, under_is (rank_of s y n) bound k, max_right (next_rank_def s y n bound) (under (rank_of s y n) bound))
+      here : rank_of s y n < bound → rank_of s y n ≤ max (next_rank_def s y n bound) (under (rank_of s y n) bound)
+      here k = omega (arith, under_is (rank_of s y n) bound k)
 
-      go : (j < n) ⊎ (j ≡ n) → (j < n → rank_of s y j ≤ next_rank_def s y n bound) → rank_of s y j ≤ max_of (next_rank_def s y n bound)
+      go : (j < n) ⊎ (j ≡ n) → (j < n → rank_of s y j ≤ next_rank_def s y n bound) → rank_of s y j ≤ max (next_rank_def s y n bound)
           (under (rank_of s y n) bound)
-      go (inl k) f = omega (arith, f k, max_left (next_rank_def s y n bound) (under (rank_of s y n) bound))
-      go (inr e) f = subst (λ (z : ℕ). rank_of s y z ≤ max_of (next_rank_def s y n bound) (under (rank_of s y n) bound)) (sym e)
+      go (inl k) f = omega (arith, f k)
+      go (inr e) f = subst (λ (z : ℕ). rank_of s y z ≤ max (next_rank_def s y n bound) (under (rank_of s y n) bound)) (sym e)
           (here (subst (λ (z : ℕ). rank_of s y z < bound) e l))
 
   -- one more slot
-  pub next_more : (n bound : ℕ) {a r u z : ℕ} → a ≡ next_rank_def s y n bound → r ≡ rank_of s y n → u ≡ under r bound → z ≡ max_of a u → z ≡ next_rank_def s y
+  pub next_more : (n bound : ℕ) {a r u z : ℕ} → a ≡ next_rank_def s y n bound → r ≡ rank_of s y n → u ≡ under r bound → z ≡ max a u → z ≡ next_rank_def s y
       (n + 1) bound
   unfolding next_rank_def
-  next_more n bound p q v w = rw add-one (w ∙ (λ i. max_of (p i) ((v ∙ ap (λ (x : ℕ). under x bound) q) i)))
+  next_more n bound p q v w = rw add-one (w ∙ (λ i. max (p i) ((v ∙ ap (λ (x : ℕ). under x bound) q) i)))

@@ -28,8 +28,8 @@ use Rattle.protocol.proofs.Equal.{message_printed}
 use Rattle.protocol.proofs.Packets.{candidate-lengths}
 use Rattle.wire.specs.Places.{write_at_def}
 use Rattle.server.specs.declared.memory.Opened.{Opened}
-use Rattle.server.specs.declared.memory.Found.{Found}
-use Rattle.server.specs.declared.memory.Found.TheVariants as found
+use Rattle.std.specs.declared.option.Option as rust
+use Rattle.std.specs.Prelude.{Some, None}
 use Rattle.server.specs.Reads.{first_with, FindIs, FindAs, OpenedAs}
 use Rattle.server.specs.Answers.{memory_in}
 use Rattle.server.specs.Valid.{nonce_hash, HistoryAs, tag_checks, CandidateIn, ValidAs}
@@ -56,18 +56,18 @@ module _ (d : List ℕ) (told : Opened) (x g : List ℕ) where
   found_for : (ws : List Write) (a : Stamp) → bytes_at x 0 stamp_size ≡ stamp_f.print a → share_in_def (first_with (bytes_at x 0 stamp_size) ws) ≡ lookup a ws
   found_for ws a q = ap (λ (z : List ℕ). share_in_def (first_with z ws)) q ∙ first-held a ws
 
-  pub history_none : {f : Found} → FindAs d told x f → f ≡ found.Nothing → HistoryAs d told x g false
+  pub history_none : {f : rust.Option ℕ} → FindAs d told x f → f ≡ None → HistoryAs d told x g false
   history_none find t ws h a q =
-      let i : first_with (bytes_at x 0 stamp_size) ws ≡ none = subst (λ (z : Found). FindIs s d (first_with (bytes_at x 0 stamp_size) ws) z) t (find ws h)
+      let i : first_with (bytes_at x 0 stamp_size) ws ≡ none = subst (λ (z : rust.Option ℕ). FindIs s d (first_with (bytes_at x 0 stamp_size) ws) z) t (find ws h)
       in
       sym (ap (has_digest g) (sym (found_for ws a q) ∙ ap share_in_def i))
 
-  pub history-found : {f : Found} → FindAs d told x f → {at : ℕ} → f ≡ found.At at → {b c z : List ℕ} {r : Bool} → b ≡ drop at d → c ≡ drop
+  pub history-found : {f : rust.Option ℕ} → FindAs d told x f → {at : ℕ} → f ≡ Some at → {b c z : List ℕ} {r : Bool} → b ≡ drop at d → c ≡ drop
       stamp_size b → z ≡ (share_at s c).nonce_digest_def → r ≡ same_list z g
       → HistoryAs d told x g r
   unfolding write_at_def
   history-found find {at} t {b} {c} {z} {r} u v w k ws h a q =
-      let i = subst (λ (j : Found). FindIs s d (first_with (bytes_at x 0 stamp_size) ws) j) t (find ws h) in
+      let i = subst (λ (j : rust.Option ℕ). FindIs s d (first_with (bytes_at x 0 stamp_size) ws) j) t (find ws h) in
       let l : lookup a ws ≡ some (share_at s (drop stamp_size (drop at d))) = sym (found_for ws a q) ∙ ap share_in_def i.first in
       k ∙ ap (λ (j : List ℕ). same_list j g) (w ∙ ap (λ (j : List ℕ). (share_at s j).nonce_digest_def) (v ∙ ap (drop stamp_size) u)) ∙ sym (ap (has_digest g) l)
 

@@ -22,8 +22,8 @@ use Rattle.server.specs.Answers.{memory_in}
 use Rattle.server.specs.Valid.{nonce_hash, HistoryAs, tag_checks, ValidAs}
 use Rattle.server.specs.Ranks.{slot_of, rank_of, slot_with_def, next_rank_def}
 use Rattle.server.specs.Filter.{Listed, ChosenAs, NoneFrom, ChosenUnder}
-use Rattle.server.specs.declared.filter.Chosen.{Chosen}
-use Rattle.server.specs.declared.filter.Chosen.TheVariants as chosen
+use Rattle.std.specs.declared.option.Option as rust
+use Rattle.std.specs.Prelude.{Some, None}
 use Rattle.server.proofs.Ranking.{rank-top, rank_pos, rank_inj, rank-slot, next_under, next-most}
 use Rattle.server.proofs.Choosing.{best_is, best_none}
 use Rattle.server.proofs.Testing.{valid-history, valid-tag}
@@ -53,7 +53,7 @@ module _ (d key : List ℕ) (told : Opened) (y : List ℕ) (m : ℕ) where
       go o l j k h false f = none o l j k (ltb-false (rank_of (shelf told.t) y j) bound f)
 
   module _ (few : m ≤ 255) where
-    pub try_none : {rank : ℕ} → Trying rank → rank ≤ 0 → ChosenAs d key told y m chosen.Nothing
+    pub try_none : {rank : ℕ} → Trying rank → rank ≤ 0 → ChosenAs d key told y m None
     try_none w h o l =
         best_none (shelf told.t) key told.server (server_in (memory_in o)) y m few l
         (λ j k. w.above o l j k (omega (arith, h, rank_pos (shelf told.t) y j (omega arith))))
@@ -71,7 +71,7 @@ module _ (d key : List ℕ) (told : Opened) (y : List ℕ) (m : ℕ) where
           → r ≡ valid real (shelf told.t) key told.server (server_in (memory_in o)) (candidate_at (shelf told.t) (slot_of (shelf told.t) y i))
       tested o l = subst (λ (z : List ℕ). ValidAs d key told z r) q test o (l.made i in-hand.0, l.ok i in-hand.0)
 
-      pub try-found : r ≡ true → ChosenAs d key told y m (chosen.At i)
+      pub try-found : r ≡ true → ChosenAs d key told y m (Some i)
       try-found g o l =
           record {
             made = l.made i in-hand.0;
@@ -110,19 +110,19 @@ module _ (d key : List ℕ) (told : Opened) (y : List ℕ) (m : ℕ) (few : m �
   highest : Trying d key told y m rank
   highest = try-under d key told y m (none_above d key told y m bs) u
 
-  pub highest_none : rank ≤ 0 → ChosenAs d key told y m chosen.Nothing
+  pub highest_none : rank ≤ 0 → ChosenAs d key told y m None
   highest_none h = try_none d key told y m few highest h
 
   module _ (pos : 0 < rank) {i : ℕ} (p : i ≡ slot_with_def rank) {x : List ℕ} (q : x ≡ slot_of (shelf told.t) y i) {g : List ℕ}
       (f : g ≡ nonce_hash x) {r : Bool}
       (past : HistoryAs d told x g r) where
-    pub highest-held : r ≡ true → ChosenAs d key told y m (chosen.At i)
+    pub highest-held : r ≡ true → ChosenAs d key told y m (Some i)
     highest-held h = try-found d key told y m few highest pos p q (valid-history d key told x f past h) refl
 
     module _ (unheld : r ≡ false) {prepared : Prepared} (k : prepared ≡ prepared_of key) {c : Bool}
         (tag : c ≡ tag_checks prepared told x g) where
-      pub highest-tagged : c ≡ true → ChosenAs d key told y m (chosen.At i)
+      pub highest-tagged : c ≡ true → ChosenAs d key told y m (Some i)
       highest-tagged h = try-found d key told y m few highest pos p q (valid-tag d key told x f past unheld k tag) h
 
-      pub then-under : c ≡ false → (z : Chosen) → ChosenUnder d prepared told y m rank z → ChosenAs d key told y m z
+      pub then-under : c ≡ false → (z : rust.Option ℕ) → ChosenUnder d prepared told y m rank z → ChosenAs d key told y m z
       then-under h z under = under key k (none_from d key told y m few highest pos p q (valid-tag d key told x f past unheld k tag) h)

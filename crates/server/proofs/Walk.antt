@@ -27,7 +27,8 @@ use Rattle.protocol.proofs.Readers.{stamp_read, share_read}
 use Rattle.format.proofs.Walks.{Reads, decide, leaves_moved, many-next, many_stops, many_none}
 use Rattle.wire.specs.Places.{length_at, share_size_def, write_at_def}
 use Rattle.wire.proofs.Through.{past-stamp}
-use Rattle.server.specs.declared.memory.Found.TheVariants as found
+use Rattle.std.specs.declared.option.Option as rust
+use Rattle.std.specs.Prelude.{Some, None}
 use Rattle.server.specs.Reads.{write_size, Stored, first_with, SearchAs}
 
 -- ---- the bytes of a stored write
@@ -148,7 +149,7 @@ walk_none s n d key {at} p =
     }
 
 module _ {s : Config} {n : ℕ} {d key : List ℕ} {at i : ℕ} (h : Walking s n d key at i) where
-  pub walk_end : n ≤ i → SearchAs s n d key found.Nothing
+  pub walk_end : n ≤ i → SearchAs s n d key None
   unfolding first_with
   walk_end l ws e m =
       let (ys, r, p) = h.rest ws e m in
@@ -160,7 +161,7 @@ module _ {s : Config} {n : ℕ} {d key : List ℕ} {at i : ℕ} (h : Walking s n
 
     -- y is what stands from the cursor on, and z the size of its first write
     module _ {y : List ℕ} (u : y ≡ drop at d) where
-      pub walk_short : {z : ℕ} → z ≡ write_size s (drop at d) → length y < z → SearchAs s n d key found.Nothing
+      pub walk_short : {z : ℕ} → z ≡ write_size s (drop at d) → length y < z → SearchAs s n d key None
       walk_short v k ws e m = absurd (omega (arith, v, k, ap length u, length-drop at d, (there m).within))
 
       module _ {x : List ℕ} (p : x ≡ bytes_at y 0 stamp_size) {b : Bool} (c : b ≡ same_list x key) where
@@ -168,7 +169,7 @@ module _ {s : Config} {n : ℕ} {d key : List ℕ} {at i : ℕ} (h : Walking s n
         unfolding bytes_at
         compared m = ap (λ (z : List ℕ). same_list z key) (sym (p ∙ ap (take stamp_size) u ∙ unfold bytes_at in (stamp-bytes s (there m) bs))) ∙ sym c
 
-        pub walk-found : b ≡ true → SearchAs s n d key (found.At at)
+        pub walk-found : b ≡ true → SearchAs s n d key (Some at)
         unfolding first_with
         walk-found t ws e m =
             let f = there m in

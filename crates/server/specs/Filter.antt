@@ -1,7 +1,7 @@
 -- What private functions promise each other; no public contract names these.
 -- What filter chooses from a list of candidates, and what it replies, where the memory opens.
-use Rattle.std.specs.Prelude.{◌≡◌, false, List, [], ℕ, ◌*◌, ◌≤◌, ◌<◌, length, take, drop}
-use Rattle.std.proofs.Math.Option.{Option, none, some}
+use Rattle.std.specs.Prelude.{◌≡◌, false, List, [], ℕ, ◌*◌, ◌≤◌, ◌<◌, length, take, drop, MatchOption}
+use Rattle.std.specs.declared.option.Option.{Option}
 use Rattle.cluster.specs.Config.{Config, shelf}
 use Rattle.hmac.specs.declared.Prepared.{Prepared}
 use Rattle.hmac.specs.Hmac.{tag_size}
@@ -22,8 +22,6 @@ use Rattle.server.specs.declared.memory.Opened.{Opened}
 use Rattle.server.specs.Reads.{Holds, OpenedAs}
 use Rattle.server.specs.Answers.{memory_in, reply_head_def}
 use Rattle.server.specs.Ranks.{slot_of, rank_of}
-use Rattle.server.specs.declared.filter.Chosen.{Chosen}
-use Rattle.server.specs.declared.filter.Chosen.TheVariants as chosen
 
 -- ---- the highest valid candidate
 
@@ -39,24 +37,11 @@ pub record ChosenAt (s : Config) (y : List ℕ) (c : Candidate) (i : ℕ) : Type
   pub ok : (candidate_f s).Ok (candidate_at s (slot_of s y i))
   pub best : c ≡ candidate_at s (slot_of s y i)
 
--- document 01's number, and the value: the candidate's slot, if one is valid. Neither answer refuses anything, so that the value alone tells
--- them apart: filter replies with the candidate's stamp, or with the blank one
-pub record ChosenAnswer : Type 0 where
-  pub number : ℕ
-  pub slot : Option ℕ
+-- the candidate's slot, if one is valid. Neither answer refuses anything: filter replies with the candidate's stamp, or with the blank one
+abbrev pub ChosenIs : Config → List ℕ → Candidate → Option ℕ → Type 0
+ChosenIs s y c r = MatchOption r (c ≡ blank_candidate s) (λ i. ChosenAt s y c i)
 
-abbrev pub chosen_answer : Chosen → ChosenAnswer
-chosen_answer (chosen.At i) = record { number = 0; slot = some i }
-chosen_answer chosen.Nothing = record { number = 0; slot = none }
-
-abbrev pub SlotAs : Config → List ℕ → Candidate → Option ℕ → Type 0
-SlotAs s y c (some i) = ChosenAt s y c i
-SlotAs s y c none = c ≡ blank_candidate s
-
-abbrev pub ChosenIs : Config → List ℕ → Candidate → Chosen → Type 0
-ChosenIs s y c r = SlotAs s y c (chosen_answer r).slot
-
-abbrev pub ChosenAs : List ℕ → List ℕ → Opened → List ℕ → ℕ → Chosen → Type 0
+abbrev pub ChosenAs : List ℕ → List ℕ → Opened → List ℕ → ℕ → Option ℕ → Type 0
 ChosenAs d key told y m r =
     let s = shelf told.t in
     (o : OpenedAs d told) → Listed s m y
@@ -70,7 +55,7 @@ NoneFrom d key told y m bound =
     → valid real s key told.server (server_in (memory_in o)) (candidate_at s (slot_of s y j)) ≡ false
 
 -- the choice where none of rank bound or higher is valid, for every key that is prepared so
-abbrev pub ChosenUnder : List ℕ → Prepared → Opened → List ℕ → ℕ → ℕ → Chosen → Type 0
+abbrev pub ChosenUnder : List ℕ → Prepared → Opened → List ℕ → ℕ → ℕ → Option ℕ → Type 0
 ChosenUnder d prepared told y m bound r =
     (key : List ℕ) → prepared ≡ prepared_of key → NoneFrom d key told y m bound → ChosenAs d key told y m r
 

@@ -1,11 +1,10 @@
 -- What private functions promise each other; no public contract names these.
 -- The slots of a list of candidates, and the order in which they are tried: by rank from the highest down, the first among equals.
-use Rattle.std.specs.Prelude.{cond, List, ℕ, zero, suc, ◌+◌, ◌-◌, ◌*◌, ◌%◌, ltb}
+use Rattle.std.specs.Prelude.{cond, List, ℕ, zero, suc, ◌+◌, ◌-◌, ◌*◌, ◌%◌, ltb, max}
 use Rattle.cluster.specs.Config.{Config}
 use Rattle.protocol.specs.Values.{rank, candidate_size_def}
 use Rattle.protocol.specs.View.{stamp_at_def}
 use Rattle.format.specs.Reading.{bytes_at}
-use Rattle.server.specs.Reads.{max_of}
 
 -- the bytes of slot i of a list
 unfoldable pub slot_of : Config → List ℕ → ℕ → List ℕ
@@ -25,4 +24,4 @@ under r bound = cond (ltb r bound) r 0
 -- the highest rank below bound among the first n slots, or 0
 unfoldable pub next_rank_def : Config → List ℕ → ℕ → ℕ → ℕ
 next_rank_def s y zero bound = 0
-next_rank_def s y (suc n) bound = max_of (next_rank_def s y n bound) (under (rank_of s y n) bound)
+next_rank_def s y (suc n) bound = max (next_rank_def s y n bound) (under (rank_of s y n) bound)

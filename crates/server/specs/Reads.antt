@@ -1,6 +1,7 @@
 -- What private functions promise each other; no public contract names these.
 -- What each reader of a server's memory answers. The stored writes have no fixed length, so they are told by the places where they leave the bytes.
-use Rattle.std.specs.Prelude.{◌≡◌, Bool, true, cond, List, [], ◌∷◌, ℕ, ◌+◌, ◌<◌, ltb, drop}
+use Rattle.std.specs.Prelude.{◌≡◌, Bool, true, cond, List, [], ◌∷◌, ℕ, ◌+◌, ◌<◌, ltb, max, drop, MatchOption}
+use Rattle.std.specs.declared.option.Option as rust
 use Rattle.std.proofs.Math.Option.{Option, none, some}
 use Rattle.cluster.specs.Config.{Config, shelf}
 use Rattle.cluster.specs.Refusals.{ByNumber}
@@ -13,8 +14,6 @@ use Rattle.format.specs.Reading.{bytes_at, Leaves}
 use Rattle.wire.specs.Places.{length_at, share_size_def, write_at_def}
 use Rattle.server.specs.declared.memory.Top.{Top}
 use Rattle.server.specs.declared.memory.Opened.{Opened}
-use Rattle.server.specs.declared.memory.Found.{Found}
-use Rattle.server.specs.declared.memory.Found.TheVariants as found
 use Rattle.server.specs.declared.memory.Writes.{Writes}
 use Rattle.server.specs.declared.memory.Writes.TheVariants as writes
 use Rattle.server.specs.declared.memory.MemoryRead.{MemoryRead}
@@ -39,33 +38,18 @@ pub record FoundAt (s : Config) (d : List ℕ) (at : ℕ) (o : Option Write) : T
   pub there : Leaves (write_f s) d at (write_at_def s (drop at d)) next
   pub first : o ≡ some (write_at_def s (drop at d))
 
--- document 01's number, and the value: the place of the write, if there is one. Neither answer refuses anything, so that the value alone tells
--- them apart: to a store, a place becomes the reply 10, and none 0 or 11 (Server's on_store_def)
-pub record FoundAnswer : Type 0 where
-  pub number : ℕ
-  pub place : Option ℕ
+-- the place of the write, if there is one. Neither answer refuses anything: to a store, a place becomes the reply 10, and none 0 or 11
+-- (Server's on_store_def)
+abbrev pub FindIs : Config → List ℕ → Option Write → rust.Option ℕ → Type 0
+FindIs s d o r = MatchOption r (o ≡ none) (λ at. FoundAt s d at o)
 
-abbrev pub found_answer : Found → FoundAnswer
-found_answer (found.At at) = record { number = 0; place = some at }
-found_answer found.Nothing = record { number = 0; place = none }
-
-abbrev pub PlaceAs : Config → List ℕ → Option Write → Option ℕ → Type 0
-PlaceAs s d o (some at) = FoundAt s d at o
-PlaceAs s d o none = o ≡ none
-
-abbrev pub FindIs : Config → List ℕ → Option Write → Found → Type 0
-FindIs s d o r = PlaceAs s d o (found_answer r).place
-
-abbrev pub SearchAs : Config → ℕ → List ℕ → List ℕ → Found → Type 0
+abbrev pub SearchAs : Config → ℕ → List ℕ → List ℕ → rust.Option ℕ → Type 0
 SearchAs s n d key r = (ws : List Write) (e : ℕ) → Stored s n d ws e → FindIs s d (first_with key ws) r
-
-unfoldable pub max_of : ℕ → ℕ → ℕ
-max_of a b = cond (ltb a b) b a
 
 -- the highest of k and the writes' ranks
 unfoldable pub highest_of : ℕ → List Write → ℕ
 highest_of k [] = k
-highest_of k (w ∷ ws) = highest_of (max_of k (rank w.stamp)) ws
+highest_of k (w ∷ ws) = highest_of (max k (rank w.stamp)) ws
 
 -- top is the highest of the writes: its key is their highest rank, 0 where there is none; at its place stands a write of that rank, and a stamp with
 -- the bytes there is found there. Place 0 is none
@@ -80,7 +64,7 @@ pub record Holds (d : List ℕ) (told : Opened) (ws : List Write) : Type 0 where
   pub up : TopOf (shelf told.t) d told.top ws
 
 -- the first of them whose stamp has the bytes that x begins with
-abbrev pub FindAs : List ℕ → Opened → List ℕ → Found → Type 0
+abbrev pub FindAs : List ℕ → Opened → List ℕ → rust.Option ℕ → Type 0
 FindAs d told x r = (ws : List Write) → Holds d told ws → FindIs (shelf told.t) d (first_with (bytes_at x 0 stamp_size) ws) r
 
 -- ---- no stamp twice

@@ -9,11 +9,7 @@ use crate::memory::{FAULTS, MemoryRead, SERVER};
 pub fn clear(memory: &mut [u8])
     ensures { memory.new ≡ replicate (length memory.old) 0 }
 {
-    let mut i = 0;
-    while i < memory.len() {
-        memory[i] = 0;
-        i += 1;
-    }
+    memory.fill(0);
 }
 
 // A new server, blank, whatever the memory held.

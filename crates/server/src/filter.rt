@@ -6,17 +6,10 @@ ghost use Rattle.wire.specs.Places.{length_at, share_size_def};
 ghost use Rattle.server.specs.Answers.{AnswersAs};
 ghost use Rattle.server.specs.Filter.{ChosenAs, ChosenUnder, share_bytes_def, HeldAs};
 
-use crate::memory::{Found, Opened, find};
+use crate::memory::{Opened, find};
 use crate::rank::{next_rank, slot, slot_with};
 use crate::valid::{by_history, by_tag, digest_nonce};
 use wire::bytes::{part, rest};
-
-// The slot of a list's highest valid candidate.
-#[derive(Clone, Copy)]
-pub(crate) enum Chosen {
-    At(u8),
-    Nothing,
-}
 
 // Bytes of a list's count, before its candidates.
 const COUNT_SIZE: usize = 1;
@@ -29,7 +22,7 @@ fn choose_under(
     list: &[u8],
     count: u8,
     bound: u64,
-) -> Chosen
+) -> Option<u8>
     requires { 1 ≤ opened.server }
     ensures { ChosenUnder memory.now prepared opened list.now count bound result }
 {
@@ -37,32 +30,32 @@ fn choose_under(
     while 0 < rank {
         let i = slot_with(rank);
         if crate::valid::valid_prepared(memory, prepared, opened, slot(list, opened.t, i)) {
-            return Chosen::At(i);
+            return Some(i);
         }
         rank = next_rank(list, opened.t, count, rank);
     }
-    Chosen::Nothing
+    None
 }
 
 // Candidates are tested from the highest rank down, up to the first valid one: a test costs a digest and a tag. Where the highest is
 // held, no tag is needed; else the key is prepared, once for all of them.
-fn choose(memory: &[u8], key: [u8; cluster::KEY], opened: Opened, list: &[u8], count: u8) -> Chosen
+fn choose(memory: &[u8], key: [u8; cluster::KEY], opened: Opened, list: &[u8], count: u8) -> Option<u8>
     requires { 1 ≤ opened.server }
     ensures { ChosenAs memory.now key opened list.now count result }
 {
     let rank = next_rank(list, opened.t, count, crate::rank::ABOVE);
     if rank == 0 {
-        return Chosen::Nothing;
+        return None;
     }
     let i = slot_with(rank);
     let candidate = slot(list, opened.t, i);
     let digest = digest_nonce(candidate);
     if by_history(memory, opened, candidate, digest) {
-        return Chosen::At(i);
+        return Some(i);
     }
     let prepared = hmac::prepare(key);
     if by_tag(prepared, opened, candidate, digest) {
-        return Chosen::At(i);
+        return Some(i);
     }
     choose_under(memory, prepared, opened, list, count, rank)
 }
@@ -103,7 +96,7 @@ fn reply_held(
     ensures { HeldAs memory.now head opened stamp out.old (record { result = result; output = out.new }) }
 {
     let nothing = held_head(stamp, 0);
-    let Found::At(at) = find(memory, opened, &nothing) else {
+    let Some(at) = find(memory, opened, &nothing) else {
         return wire::make::make_packet(
             crate::answers::reply_head(head, protocol::kinds::FILTER_REPLY),
             &nothing,
@@ -136,7 +129,7 @@ pub(crate) fn filter(
     let head = passed.head;
     let list = rest(rest(packet, wire::sizes::HEAD), COUNT_SIZE);
     let count = passed.number as u8;
-    let Chosen::At(i) = choose(memory, key, opened, list, count) else {
+    let Some(i) = choose(memory, key, opened, list, count) else {
         return reply_held(memory, head, opened, protocol::Stamp::blank(), out);
     };
     let chosen = slot(list, opened.t, i);

@@ -6,7 +6,7 @@ ghost use Rattle.protocol.specs.Values.{rank, same_list, stamp_size};
 ghost use Rattle.protocol.specs.View.{stamp_at_def};
 ghost use Rattle.protocol.specs.Memory.{writes_place_def};
 ghost use Rattle.format.specs.Reading.{bytes_at};
-ghost use Rattle.server.specs.Reads.{SearchAs, FindAs, RepeatsAs, WritesAs, MemoryAs, max_of, raised_top};
+ghost use Rattle.server.specs.Reads.{SearchAs, FindAs, RepeatsAs, WritesAs, MemoryAs, raised_top};
 
 use wire::bytes::{part, rest};
 use wire::fields::{Cursor, Field};
@@ -21,13 +21,6 @@ pub const SERVER: usize = 1;
 pub const COUNT: usize = 2;
 
 pub const LATEST: usize = 3;
-
-// The place where a stored write begins.
-#[derive(Clone, Copy)]
-pub(crate) enum Found {
-    At(usize),
-    Nothing,
-}
 
 // The highest of the stored writes: its stamp in their order, and its place; 0 and 0 where none is stored.
 #[derive(Clone, Copy)]
@@ -69,78 +62,61 @@ pub fn writes_place(t: u8) -> usize
 
 // The first of n stored writes whose stamp has these bytes. The writes were checked before, so each ends where its record length says:
 // it has the bytes of one without a fragment, and its fragment's.
-fn search(memory: &[u8], t: u8, n: usize, stamp: &[u8]) -> Found
+fn search(memory: &[u8], t: u8, n: usize, stamp: &[u8]) -> Option<usize>
     ensures { SearchAs (shelf t) n memory.now stamp.now result }
 {
     let frame = wire::sizes::STAMP + wire::sizes::share_size(t, 0);
     let mut at = writes_place(t);
-    let mut i = 0;
-    while i < n {
+    for _ in 0..n {
         let write = rest(memory, at);
         if wire::bytes::same(part(write, 0, wire::sizes::STAMP), stamp) {
-            return Found::At(at);
+            return Some(at);
         }
         let length = wire::bytes::number2(rest(write, wire::sizes::STAMP));
         let size = frame + wire::sizes::fragment_size(t, length);
         if write.len() < size {
-            return Found::Nothing;
+            return None;
         }
         at += size;
-        i += 1;
     }
-    Found::Nothing
+    None
 }
 
 // Whether a stamp's bytes stand at a place; at place 0 none do.
 fn stands_at(memory: &[u8], at: usize, stamp: &[u8]) -> bool
     ensures { result ≡ (ltb 0 at && same_list (bytes_at (drop at memory.now) 0 stamp_size) stamp.now) }
 {
-    if at == 0 {
-        return false;
-    }
-    wire::bytes::same(part(rest(memory, at), 0, wire::sizes::STAMP), stamp)
+    0 < at && wire::bytes::same(part(rest(memory, at), 0, wire::sizes::STAMP), stamp)
 }
 
 // The first stored write whose stamp has the bytes that some begin with; key is that stamp's rank. A stamp above the highest of them needs no search,
 // nor does that one's own, which is asked for most often.
-fn find_ranked(memory: &[u8], opened: Opened, key: u64, bytes: &[u8]) -> Found
+fn find_ranked(memory: &[u8], opened: Opened, key: u64, bytes: &[u8]) -> Option<usize>
     requires { key ≡ rank (stamp_at_def bytes.now) }
     ensures { FindAs memory.now opened bytes.now result }
 {
     let stamp = part(bytes, 0, wire::sizes::STAMP);
     let top = opened.top;
     if top.key < key {
-        return Found::Nothing;
+        return None;
     }
     if stands_at(memory, top.at, stamp) {
-        return Found::At(top.at);
+        return Some(top.at);
     }
     search(memory, opened.t, opened.count, stamp)
 }
 
-pub(crate) fn find(memory: &[u8], opened: Opened, bytes: &[u8]) -> Found
+pub(crate) fn find(memory: &[u8], opened: Opened, bytes: &[u8]) -> Option<usize>
     ensures { FindAs memory.now opened bytes.now result }
 {
     find_ranked(memory, opened, rank_at(bytes), bytes)
-}
-
-pub(crate) fn max_of(a: u64, b: u64) -> u64
-    ensures { result ≡ max_of a b }
-{
-    if a < b {
-        return b;
-    }
-    a
 }
 
 // The higher of top and the write of a key at a place.
 fn raised(top: Top, key: u64, at: usize) -> Top
     ensures { result ≡ raised_top top key at }
 {
-    if top.key < key {
-        return Top { key, at };
-    }
-    top
+    if top.key < key { Top { key, at } } else { top }
 }
 
 // Whether one of the stored writes that were read has the stamp at the place past them, whose rank is key. Writes mostly arrive in the order of
@@ -149,14 +125,7 @@ fn repeats(memory: &[u8], read: Opened, key: u64) -> bool
     requires { key ≡ rank (stamp_at_def (drop read.end memory.now)) }
     ensures { RepeatsAs memory.now read result }
 {
-    let top = read.top;
-    if top.key < key {
-        return false;
-    }
-    let Found::Nothing = find_ranked(memory, read, key, rest(memory, read.end)) else {
-        return true;
-    };
-    false
+    key <= read.top.key && find_ranked(memory, read, key, rest(memory, read.end)).is_some()
 }
 
 // n stored writes, no two of one stamp, from their place on, after the t and the server that were read.

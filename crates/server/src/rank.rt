@@ -4,7 +4,6 @@ ghost use Rattle.std.specs.Prelude.{◌≡◌};
 ghost use Rattle.cluster.specs.Config.{shelf};
 ghost use Rattle.server.specs.Ranks.{slot_of, rank_of, slot_with_def, under, next_rank_def};
 
-use crate::memory::max_of;
 use wire::sizes::candidate_size;
 
 // Above every rank.
@@ -35,10 +34,7 @@ pub(crate) fn slot_with(rank: u64) -> u8
 fn under(rank: u64, bound: u64) -> u64
     ensures { result ≡ under rank bound }
 {
-    if rank < bound {
-        return rank;
-    }
-    0
+    if rank < bound { rank } else { 0 }
 }
 
 // The highest rank below bound among the first n slots; 0 where there is none.
@@ -46,10 +42,8 @@ pub(crate) fn next_rank(list: &[u8], t: u8, n: u8, bound: u64) -> u64
     ensures { result ≡ next_rank_def (shelf t) list.now n bound }
 {
     let mut best = 0;
-    let mut i = 0;
-    while i < n {
-        best = max_of(best, under(rank_at(list, t, i), bound));
-        i += 1;
+    for i in 0..n {
+        best = best.max(under(rank_at(list, t, i), bound));
     }
     best
 }

@@ -4,7 +4,7 @@ ghost use Rattle.cluster.specs.Ranges.{capacity};
 ghost use Rattle.wire.specs.Make.{packet_step};
 ghost use Rattle.server.specs.Answers.{reply_head_def, AnswersOf, kept_bytes};
 
-use crate::memory::{COUNT, Found, Opened, find};
+use crate::memory::{COUNT, Opened, find};
 use wire::bytes::{part, rest};
 
 // The reply: 0, 10 or 11.
@@ -40,9 +40,9 @@ pub(crate) fn store(
         (record { result = result; memory = memory.new; output = out.new }) }
 {
     let write = rest(packet, wire::sizes::HEAD);
-    let Found::Nothing = find(memory, opened, write) else {
+    if find(memory, opened, write).is_some() {
         return store_reply(head, protocol::codes::HELD, out);
-    };
+    }
     if cluster::CAPACITY <= opened.count {
         return store_reply(head, protocol::codes::FULL, out);
     }

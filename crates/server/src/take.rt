@@ -14,22 +14,17 @@ use wire::packet::{PacketRead, Passed, read_packet};
 fn foreign(client: u8, label: protocol::Label) -> bool
     ensures { result ≡ (ltb top_writer client || not (eqb label.writer client)) }
 {
-    if cluster::TOP_WRITER < (client as usize) {
-        return true;
-    }
-    label.writer != client
+    cluster::TOP_WRITER < usize::from(client) || label.writer != client
 }
 
 // Refusal 9: replies, and requests that only a writer may send.
 fn barred(head: protocol::Head, label: protocol::Label) -> bool
     ensures { EveryPacket head label (λ p. result ≡ barred head.client p.body) }
 {
-    let kind = head.kind;
-    let client = head.client;
-    match kind {
+    match head.kind {
         protocol::kinds::COLLECT | protocol::kinds::FILTER | protocol::kinds::REPAIR => false,
-        protocol::kinds::CLOCK => cluster::TOP_WRITER < (client as usize),
-        protocol::kinds::STORE | protocol::kinds::COMPLETE => foreign(client, label),
+        protocol::kinds::CLOCK => cluster::TOP_WRITER < usize::from(head.client),
+        protocol::kinds::STORE | protocol::kinds::COMPLETE => foreign(head.client, label),
         _ => true,
     }
 }

@@ -4,7 +4,7 @@ ghost use Rattle.cluster.specs.Config.{shelf};
 ghost use Rattle.protocol.specs.View.{share_at};
 ghost use Rattle.server.specs.Valid.{nonce_hash, HistoryAs, tag_checks, ValidAs, ValidPrepared};
 
-use crate::memory::{Found, Opened, find};
+use crate::memory::{Opened, find};
 use wire::bytes::{part, rest};
 
 // The nonce digest in a share.
@@ -35,7 +35,7 @@ pub(crate) fn by_history(
 ) -> bool
     ensures { HistoryAs memory.now opened candidate.now digest result }
 {
-    let Found::At(at) = find(memory, opened, candidate) else {
+    let Some(at) = find(memory, opened, candidate) else {
         return false;
     };
     let found = nonce_digest(rest(rest(memory, at), wire::sizes::STAMP), opened.t);
@@ -76,10 +76,7 @@ pub(crate) fn valid_prepared(
     ensures { ValidPrepared memory.now prepared opened candidate.now result }
 {
     let digest = digest_nonce(candidate);
-    if by_history(memory, opened, candidate, digest) {
-        return true;
-    }
-    by_tag(prepared, opened, candidate, digest)
+    by_history(memory, opened, candidate, digest) || by_tag(prepared, opened, candidate, digest)
 }
 
 // A candidate that is held costs no preparation of the key.
@@ -93,8 +90,6 @@ pub(crate) fn valid(
     ensures { ValidAs memory.now key opened candidate.now result }
 {
     let digest = digest_nonce(candidate);
-    if by_history(memory, opened, candidate, digest) {
-        return true;
-    }
-    by_tag(hmac::prepare(key), opened, candidate, digest)
+    by_history(memory, opened, candidate, digest)
+        || by_tag(hmac::prepare(key), opened, candidate, digest)
 }
