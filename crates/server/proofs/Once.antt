@@ -27,7 +27,7 @@ use Rattle.server.specs.declared.memory.Top.{Top}
 use Rattle.server.specs.declared.memory.Opened.{Opened}
 use Rattle.std.specs.declared.option.Option as rust
 use Rattle.std.specs.Prelude.{Some, None}
-use Rattle.server.specs.declared.memory.Writes.TheVariants as writes
+use Rattle.std.specs.Option as std
 use Rattle.server.specs.Reads.{Stored, first_with, FindIs, highest_of, TopOf, no_top, FindAs, raised_top, RepeatsAs, NoWrites, WritesAs}
 use Rattle.server.proofs.Walk.{stamp-bytes}
 use Rattle.server.proofs.Finding.{highest_more, key_printed, first_above, first-append, share_in_def, first-held}
@@ -54,10 +54,9 @@ module _ (d : List ℕ) (told : Opened) (bs : Bytes d) {x : List ℕ} (p : x ≡
       let o : first_with (bytes_at x 0 stamp_size) ws ≡ none = subst (λ (y : rust.Option ℕ). FindIs s d (first_with (bytes_at x 0 stamp_size) ws) y) t (g ws h) in
       sym (ap is_some (sym (found-held f ws) ∙ ap share_in_def o))
 
-  pub repeats-found : {r : rust.Option ℕ} {k : ℕ} → r ≡ Some k → FindAs d told x r → RepeatsAs d told true
-  repeats-found t g ws next h f =
-      let o = subst (λ (y : rust.Option ℕ). FindIs s d (first_with (bytes_at x 0 stamp_size) ws) y) t (g ws h) in
-      sym (ap is_some (sym (found-held f ws) ∙ ap share_in_def o.first))
+  pub repeats_as : (r : rust.Option ℕ) → FindAs d told x r → RepeatsAs d told (std.is_some r)
+  repeats_as (Some k) g ws next h f = sym (ap is_some (sym (found-held f ws) ∙ ap share_in_def (g ws h).first))
+  repeats_as None g = repeats_none refl g
 
 -- ---- the highest of the writes, with one more
 
@@ -138,7 +137,7 @@ abbrev pub seen_so : ℕ → ℕ → ℕ → ℕ → Top → Opened
 seen_so t b i at top = record { t = t; server = b; count = i; end = at; top = top }
 
 module _ (t : ℕ) {n : ℕ} {d : List ℕ} {at i : ℕ} {top : Top} (h : Checking (shelf t) n d at top i) where
-  pub check-end : (b : ℕ) → i ≡ n → WritesAs t b n d (writes.Past at top)
+  pub check-end : (b : ℕ) → i ≡ n → WritesAs t b n d (Some (at, top))
   check-end b e =
       let m = subst (λ (j : ℕ). Stored (shelf t) j d h.seen at) e h.there in
       let (ys, r, p) = h.rest h.seen at m in

@@ -24,9 +24,7 @@ use Rattle.format.proofs.Repeats.{many_law}
 use Rattle.format.proofs.Walks.{Reads, decide, leaves_moved, many-count}
 use Rattle.wire.specs.Reads.{TookAt, byte_l, any_candidate_l}
 use Rattle.server.specs.declared.memory.Top.{Top}
-use Rattle.server.specs.declared.memory.Writes.{Writes}
-use Rattle.server.specs.declared.memory.Writes.TheVariants as writes
-use Rattle.server.specs.Reads.{Stored, Checked, NoWrites, WritesAs, OpenedAs}
+use Rattle.server.specs.Reads.{Stored, Checked, NoWrites, OpenedAs}
 
 -- ---- the parts
 
@@ -112,13 +110,10 @@ module _ {d : List ℕ} (size : length d ≡ memory_size) where
               (stops_second _ _ (byte-there 1 top_faults x) (stops_second _ _ server-there
               (stops_second _ _ (byte-there 0 capacity z) (stops_second _ _ l.leaves g)))))
 
-          pub no_writes : Bytes d → {u : Writes} → u ≡ writes.Broken → WritesAs t b n d u → decode_memory d ≡ none
-          no_writes bs broken w₀ = memory_stops d size (go (decide (many n (write_f (shelf t))) (many_law (write_f (shelf t)) (write_law (shelf t)) n) d
+          pub no_writes : Bytes d → NoWrites (shelf t) n d → decode_memory d ≡ none
+          no_writes bs w = memory_stops d size (go (decide (many n (write_f (shelf t))) (many_law (write_f (shelf t)) (write_law (shelf t)) n) d
               (writes_place_def (shelf t)) bs writes-within))
             where
-              w : NoWrites (shelf t) n d
-              w = subst (λ (o : Writes). WritesAs t b n d o) broken w₀
-
               go : Reads (many n (write_f (shelf t))) d (writes_place_def (shelf t)) ⊎ Stops (many n (write_f (shelf t))) d (writes_place_def (shelf t)) → Stops
                   memory_f d 0
               go (inl o) = memory_twice o.there (untrue _ (w o.value o.next o.there))

@@ -17,7 +17,9 @@ use Rattle.protocol.specs.Values.{candidate_size_def, rank}
 use Rattle.protocol.specs.View.{stamp_at_def}
 use Rattle.format.specs.Reading.{bytes_at}
 use Rattle.format.proofs.Answers.{at-cond, bytes_drop}
-use Rattle.server.specs.Ranks.{slot_of, rank_of, slot_with_def, under, next_rank_def}
+use Rattle.std.specs.declared.option.Option.{Option}
+use Rattle.std.specs.Prelude.{Some, None, MatchOption}
+use Rattle.server.specs.Ranks.{slot_of, rank_of, slot_with_def, higher_of, next_rank_def}
 
 -- the last of suc m, or one before it
 pub last_of : (j m : ℕ) → j < suc m → (j < m) ⊎ (j ≡ m)
@@ -54,15 +56,7 @@ pub rank-top : (s : Config) (y : List ℕ) (i : ℕ) → Bytes y → rank_of s y
 unfolding rank_of
 rank-top s y i h = omega (arith, key-top (slot_of s y i) (slot-bytes s y i h))
 
--- ---- the tests of the code
-
-pub under_is : (rank bound : ℕ) → rank < bound → under rank bound ≡ rank
-unfolding under
-under_is rank bound h = rw (lt-ltb rank bound h)
-
-pub under-not : (rank bound : ℕ) → bound ≤ rank → under rank bound ≡ 0
-unfolding under
-under-not rank bound h = rw (le-ltb rank bound h)
+-- ---- slots
 
 -- the place of a slot is a number of the code
 pub place-fits : (t i : ℕ) → t < 256 → i < 256 → {z : ℕ} → z ≡ candidate_size_def (shelf t) → z * i < 18446744073709551616
@@ -80,10 +74,6 @@ slot-made s y i p q r = r ∙ (λ j. bytes_at y (p j * i) (q j))
 -- ---- a rank tells its slot
 
 module _ (s : Config) (y : List ℕ) where
-  pub rank_pos : (i : ℕ) → i < 255 → 0 < rank_of s y i
-  unfolding rank_of
-  rank_pos i h = omega arith
-
   pub rank_inj : (i j : ℕ) → i < 255 → j < 255 → rank_of s y i ≡ rank_of s y j → i ≡ j
   unfolding rank_of
   rank_inj i j h k e = omega arith
@@ -106,47 +96,56 @@ module _ (s : Config) (y : List ℕ) where
 
   -- ---- the next rank
 
-  pub next_under : (n bound : ℕ) → 0 < next_rank_def s y n bound → (i : ℕ) × (i < n) × (next_rank_def s y n bound ≡ rank_of s y i) ×
-      (next_rank_def s y n bound < bound)
-  unfolding next_rank_def under
-  next_under zero bound h = absurd (omega arith)
-  next_under (suc n) bound h = go (ltb A U) refl h
-    where
-      A : ℕ
-      A = next_rank_def s y n bound
+  -- r is the highest rank below bound among the first n slots
+  pub record Highest (n bound r : ℕ) : Type 0 where
+    pub slot : (i : ℕ) × (i < n) × (r ≡ rank_of s y i)
+    pub below : r < bound
+    pub most : (j : ℕ) → j < n → rank_of s y j < bound → rank_of s y j ≤ r
 
-      U : ℕ
-      U = cond (ltb (rank_of s y n) bound) (rank_of s y n) 0
+  abbrev pub HighestIn : ℕ → ℕ → Option ℕ → Type 0
+  HighestIn n bound o = MatchOption o ((j : ℕ) → j < n → bound ≤ rank_of s y j) (λ r. Highest n bound r)
 
-      Q : ℕ → Type 0
-      Q z = 0 < z → (i : ℕ) × (i < suc n) × (z ≡ rank_of s y i) × (z < bound)
+  -- with one more slot
+  module _ (n bound : ℕ) where
+    -- what holds of the ranks of the slots before, and of the last one
+    each : (P : ℕ → Type 0) → ((j : ℕ) → j < n → P (rank_of s y j)) → P (rank_of s y n) → (j : ℕ) → j < suc n → P (rank_of s y j)
+    each P before last j l = go (last_of j n l)
+      where
+        go : (j < n) ⊎ (j ≡ n) → P (rank_of s y j)
+        go (inl k) = before j k
+        go (inr e) = subst (λ (z : ℕ). P (rank_of s y z)) (sym e) last
 
-      last : Q U
-      last = at-cond (ltb (rank_of s y n) bound) (rank_of s y n) 0 Q (λ f l. (n, omega arith, refl, ltb-true _ _ f)) (λ f l. absurd (omega arith))
+    kept : {a : ℕ} → Highest n bound a → (rank_of s y n < bound → rank_of s y n ≤ a) → Highest (suc n) bound a
+    kept {a} h last =
+        let (i, l, e) = h.slot in
+        record { slot = (i, omega arith, e); below = h.below; most = each (λ z. z < bound → z ≤ a) h.most last }
 
-      before : Q A
-      before l = let (i, k, p, q) = next_under n bound l in (i, omega arith, p, q)
+    last : rank_of s y n < bound → ((j : ℕ) → j < n → rank_of s y j < bound → rank_of s y j ≤ rank_of s y n)
+        → Highest (suc n) bound (rank_of s y n)
+    last l before =
+        record {
+          slot = (n, omega arith, refl);
+          below = l;
+          most = each (λ z. z < bound → z ≤ rank_of s y n) before (λ k. omega arith);
+        }
 
-      go : (c : Bool) → ltb A U ≡ c → Q (max A U)
-      go true e = let m : U ≡ max A U = omega (arith, ltb-true A U e) in subst Q m last
-      go false e = let m : A ≡ max A U = omega (arith, ltb-false A U e) in subst Q m before
+    step : (b : Bool) → ltb (rank_of s y n) bound ≡ b → (o : Option ℕ) → HighestIn n bound o
+        → HighestIn (suc n) bound (cond b (higher_of o (rank_of s y n)) o)
+    step false e None h = each (λ z. bound ≤ z) h (ltb-false (rank_of s y n) bound e)
+    step false e (Some a) h = kept h (λ k. absurd (omega (arith, ltb-false (rank_of s y n) bound e)))
+    step true e None h = last (ltb-true (rank_of s y n) bound e) (λ j l k. absurd (omega (arith, h j l)))
+    step true e (Some a) h = go (ltb a (rank_of s y n)) refl
+      where
+        go : (c : Bool) → ltb a (rank_of s y n) ≡ c → Highest (suc n) bound (max a (rank_of s y n))
+        go true f =
+            let m : rank_of s y n ≡ max a (rank_of s y n) = omega (arith, ltb-true a (rank_of s y n) f) in
+            subst (Highest (suc n) bound) m
+            (last (ltb-true (rank_of s y n) bound e) (λ j l k. omega (arith, h.most j l k, ltb-true a (rank_of s y n) f)))
+        go false f =
+            let m : a ≡ max a (rank_of s y n) = omega (arith, ltb-false a (rank_of s y n) f) in
+            subst (Highest (suc n) bound) m (kept h (λ k. ltb-false a (rank_of s y n) f))
 
-  pub next-most : (n bound j : ℕ) → j < n → rank_of s y j < bound → rank_of s y j ≤ next_rank_def s y n bound
+  pub next_is : (n bound : ℕ) → HighestIn n bound (next_rank_def s y n bound)
   unfolding next_rank_def
-  next-most zero bound j h l = absurd (omega arith)
-  next-most (suc n) bound j h l = go (last_of j n h) (λ k. next-most n bound j k l)
-    where
-      here : rank_of s y n < bound → rank_of s y n ≤ max (next_rank_def s y n bound) (under (rank_of s y n) bound)
-      here k = omega (arith, under_is (rank_of s y n) bound k)
-
-      go : (j < n) ⊎ (j ≡ n) → (j < n → rank_of s y j ≤ next_rank_def s y n bound) → rank_of s y j ≤ max (next_rank_def s y n bound)
-          (under (rank_of s y n) bound)
-      go (inl k) f = omega (arith, f k)
-      go (inr e) f = subst (λ (z : ℕ). rank_of s y z ≤ max (next_rank_def s y n bound) (under (rank_of s y n) bound)) (sym e)
-          (here (subst (λ (z : ℕ). rank_of s y z < bound) e l))
-
-  -- one more slot
-  pub next_more : (n bound : ℕ) {a r u z : ℕ} → a ≡ next_rank_def s y n bound → r ≡ rank_of s y n → u ≡ under r bound → z ≡ max a u → z ≡ next_rank_def s y
-      (n + 1) bound
-  unfolding next_rank_def
-  next_more n bound p q v w = rw add-one (w ∙ (λ i. max (p i) ((v ∙ ap (λ (x : ℕ). under x bound) q) i)))
+  next_is zero bound = λ j l. absurd (omega arith)
+  next_is (suc n) bound = step n bound (ltb (rank_of s y n) bound) refl (next_rank_def s y n bound) (next_is n bound)

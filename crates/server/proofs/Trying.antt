@@ -22,15 +22,16 @@ use Rattle.server.specs.Answers.{memory_in}
 use Rattle.server.specs.Valid.{nonce_hash, HistoryAs, tag_checks, ValidAs}
 use Rattle.server.specs.Ranks.{slot_of, rank_of, slot_with_def, next_rank_def}
 use Rattle.server.specs.Filter.{Listed, ChosenAs, NoneFrom, ChosenUnder}
-use Rattle.std.specs.declared.option.Option as rust
+use Rattle.std.specs.declared.option.Option.{Option}
 use Rattle.std.specs.Prelude.{Some, None}
-use Rattle.server.proofs.Ranking.{rank-top, rank_pos, rank_inj, rank-slot, next_under, next-most}
+use Rattle.server.proofs.Ranking.{rank-top, rank_inj, rank-slot, Highest, HighestIn, next_is}
 use Rattle.server.proofs.Choosing.{best_is, best_none}
 use Rattle.server.proofs.Testing.{valid-history, valid-tag}
 
 module _ (d key : List ℕ) (told : Opened) (y : List ℕ) (m : ℕ) where
+  -- a rank in hand: that of a slot, and every slot above it was found invalid
   pub record Trying (rank : ℕ) : Type 0 where
-    pub slot : 0 < rank → (i : ℕ) × (i < m) × (rank ≡ rank_of (shelf told.t) y i)
+    pub slot : (i : ℕ) × (i < m) × (rank ≡ rank_of (shelf told.t) y i)
     pub above : (o : OpenedAs d told) → Listed (shelf told.t) m y → (j : ℕ) → j < m → rank < rank_of (shelf told.t) y j
         → valid real (shelf told.t) key told.server (server_in (memory_in o)) (candidate_at (shelf told.t) (slot_of (shelf told.t) y j)) ≡
         false
@@ -38,32 +39,33 @@ module _ (d key : List ℕ) (told : Opened) (y : List ℕ) (m : ℕ) where
   none_above : Bytes y → NoneFrom d key told y m 281474976710656
   none_above bs o l j k h = absurd (omega (arith, h, rank-top (shelf told.t) y j bs))
 
-  pub try-under : {bound : ℕ} → NoneFrom d key told y m bound → {rank : ℕ} → rank ≡ next_rank_def (shelf told.t) y m bound → Trying rank
-  try-under {bound} none {rank} p =
-      record {
-        slot = λ h. let (i, k, q, r) = next_under (shelf told.t) y m bound (omega (arith, p, h)) in (i, k, p ∙ q);
-        above = λ o l j k h. go o l j k h (ltb (rank_of (shelf told.t) y j) bound) refl;
-      }
-    where
-      go : (o : OpenedAs d told) → Listed (shelf told.t) m y → (j : ℕ) → j < m → rank < rank_of (shelf told.t) y j → (c : Bool) → ltb
-          (rank_of (shelf told.t) y j) bound ≡ c
-          → valid real (shelf told.t) key told.server (server_in (memory_in o)) (candidate_at (shelf told.t) (slot_of (shelf told.t) y j)) ≡
-          false
-      go o l j k h true f = absurd (omega (arith, p, h, next-most (shelf told.t) y m bound j k (ltb-true (rank_of (shelf told.t) y j) bound f)))
-      go o l j k h false f = none o l j k (ltb-false (rank_of (shelf told.t) y j) bound f)
+  module _ {bound : ℕ} (none : NoneFrom d key told y m bound) {r : Option ℕ} (p : r ≡ next_rank_def (shelf told.t) y m bound) where
+    pub try-under : {rank : ℕ} → r ≡ Some rank → Trying rank
+    try-under {rank} q =
+        record { slot = h.slot; above = λ o l j k g. go o l j k g (ltb (rank_of (shelf told.t) y j) bound) refl }
+      where
+        h : Highest (shelf told.t) y m bound rank
+        h = subst (HighestIn (shelf told.t) y m bound) (sym p ∙ q) (next_is (shelf told.t) y m bound)
+
+        go : (o : OpenedAs d told) → Listed (shelf told.t) m y → (j : ℕ) → j < m → rank < rank_of (shelf told.t) y j → (c : Bool) → ltb
+            (rank_of (shelf told.t) y j) bound ≡ c
+            → valid real (shelf told.t) key told.server (server_in (memory_in o)) (candidate_at (shelf told.t) (slot_of (shelf told.t) y j)) ≡
+            false
+        go o l j k g true f = absurd (omega (arith, g, h.most j k (ltb-true (rank_of (shelf told.t) y j) bound f)))
+        go o l j k g false f = none o l j k (ltb-false (rank_of (shelf told.t) y j) bound f)
+
+    pub try_none : m ≤ 255 → r ≡ None → ChosenAs d key told y m None
+    try_none few q o l =
+        let h = subst (HighestIn (shelf told.t) y m bound) (sym p ∙ q) (next_is (shelf told.t) y m bound) in
+        best_none (shelf told.t) key told.server (server_in (memory_in o)) y m few l (λ j k. none o l j k (h j k))
 
   module _ (few : m ≤ 255) where
-    pub try_none : {rank : ℕ} → Trying rank → rank ≤ 0 → ChosenAs d key told y m None
-    try_none w h o l =
-        best_none (shelf told.t) key told.server (server_in (memory_in o)) y m few l
-        (λ j k. w.above o l j k (omega (arith, h, rank_pos (shelf told.t) y j (omega arith))))
-
-    module _ {rank : ℕ} (w : Trying rank) (pos : 0 < rank) {i : ℕ} (p : i ≡ slot_with_def rank) {x : List ℕ}
+    module _ {rank : ℕ} (w : Trying rank) {i : ℕ} (p : i ≡ slot_with_def rank) {x : List ℕ}
         (q : x ≡ slot_of (shelf told.t) y i) {r : Bool}
         (test : ValidAs d key told x r) where
       in-hand : (i < m) × (rank ≡ rank_of (shelf told.t) y i)
       in-hand =
-          let (k, h, u) = w.slot pos in
+          let (k, h, u) = w.slot in
           let v : k ≡ i = sym (p ∙ ap slot_with_def u ∙ rank-slot (shelf told.t) y k (omega (arith, h, few))) in
           (omega (arith, h, v), u ∙ ap (rank_of (shelf told.t) y) v)
 
@@ -96,33 +98,30 @@ module _ (d key : List ℕ) (told : Opened) (y : List ℕ) (m : ℕ) where
               (candidate_at (shelf told.t) (slot_of (shelf told.t) y z))) (sym s) ∙ sym
               (tested o l) ∙ g
 
-pub next_less : (t : ℕ) (y : List ℕ) (m : ℕ) {rank next : ℕ} → 0 < rank → next ≡ next_rank_def (shelf t) y m rank → next < rank
-next_less t y m {rank} {next} pos u = go (ltb 0 (next_rank_def (shelf t) y m rank)) refl
-  where
-    go : (c : Bool) → ltb 0 (next_rank_def (shelf t) y m rank) ≡ c → next < rank
-    go true f = omega (arith, u, (next_under (shelf t) y m rank (ltb-true 0 (next_rank_def (shelf t) y m rank) f)).3)
-    go false f = omega (arith, u, ltb-false 0 (next_rank_def (shelf t) y m rank) f, pos)
+pub next_less : (t : ℕ) (y : List ℕ) (m : ℕ) {bound next : ℕ} {r : Option ℕ} → r ≡ next_rank_def (shelf t) y m bound → r ≡ Some next → next < bound
+next_less t y m {bound} {next} p q =
+    let h = subst (HighestIn (shelf t) y m bound) (sym p ∙ q) (next_is (shelf t) y m bound) in h.below
 
 -- ---- the highest of all
 
-module _ (d key : List ℕ) (told : Opened) (y : List ℕ) (m : ℕ) (few : m ≤ 255) (bs : Bytes y) {rank : ℕ}
-    (u : rank ≡ next_rank_def (shelf told.t) y m 281474976710656) where
-  highest : Trying d key told y m rank
-  highest = try-under d key told y m (none_above d key told y m bs) u
+module _ (d key : List ℕ) (told : Opened) (y : List ℕ) (m : ℕ) (few : m ≤ 255) (bs : Bytes y) {next : Option ℕ}
+    (u : next ≡ next_rank_def (shelf told.t) y m 281474976710656) where
+  pub highest_none : next ≡ None → ChosenAs d key told y m None
+  highest_none h = try_none d key told y m (none_above d key told y m bs) u few h
 
-  pub highest_none : rank ≤ 0 → ChosenAs d key told y m None
-  highest_none h = try_none d key told y m few highest h
-
-  module _ (pos : 0 < rank) {i : ℕ} (p : i ≡ slot_with_def rank) {x : List ℕ} (q : x ≡ slot_of (shelf told.t) y i) {g : List ℕ}
-      (f : g ≡ nonce_hash x) {r : Bool}
+  module _ {rank : ℕ} (in-next : next ≡ Some rank) {i : ℕ} (p : i ≡ slot_with_def rank) {x : List ℕ} (q : x ≡ slot_of (shelf told.t) y i)
+      {g : List ℕ} (f : g ≡ nonce_hash x) {r : Bool}
       (past : HistoryAs d told x g r) where
+    highest : Trying d key told y m rank
+    highest = try-under d key told y m (none_above d key told y m bs) u in-next
+
     pub highest-held : r ≡ true → ChosenAs d key told y m (Some i)
-    highest-held h = try-found d key told y m few highest pos p q (valid-history d key told x f past h) refl
+    highest-held h = try-found d key told y m few highest p q (valid-history d key told x f past h) refl
 
     module _ (unheld : r ≡ false) {prepared : Prepared} (k : prepared ≡ prepared_of key) {c : Bool}
         (tag : c ≡ tag_checks prepared told x g) where
       pub highest-tagged : c ≡ true → ChosenAs d key told y m (Some i)
-      highest-tagged h = try-found d key told y m few highest pos p q (valid-tag d key told x f past unheld k tag) h
+      highest-tagged h = try-found d key told y m few highest p q (valid-tag d key told x f past unheld k tag) h
 
-      pub then-under : c ≡ false → (z : rust.Option ℕ) → ChosenUnder d prepared told y m rank z → ChosenAs d key told y m z
-      then-under h z under = under key k (none_from d key told y m few highest pos p q (valid-tag d key told x f past unheld k tag) h)
+      pub then-under : c ≡ false → (z : Option ℕ) → ChosenUnder d prepared told y m rank z → ChosenAs d key told y m z
+      then-under h z under = under key k (none_from d key told y m few highest p q (valid-tag d key told x f past unheld k tag) h)

@@ -4,20 +4,15 @@ use Rattle.std.specs.Prelude.{◌≡◌, Bool, true, cond, List, [], ◌∷◌, 
 use Rattle.std.specs.declared.option.Option as rust
 use Rattle.std.proofs.Math.Option.{Option, none, some}
 use Rattle.cluster.specs.Config.{Config, shelf}
-use Rattle.cluster.specs.Refusals.{ByNumber}
 use Rattle.format.specs.Format.{many}
 use Rattle.protocol.specs.Values.{Write, same_list, is_some, rank, stamp_size}
 use Rattle.protocol.specs.Packet.{stamp_f, write_f}
-use Rattle.protocol.specs.Memory.{Memory, lookup, distinct, decode_memory, no_record, latest_place, writes_place_def}
+use Rattle.protocol.specs.Memory.{Memory, lookup, distinct, decode_memory, latest_place, writes_place_def}
 use Rattle.protocol.specs.View.{stamp_at_def, candidate_at}
 use Rattle.format.specs.Reading.{bytes_at, Leaves}
 use Rattle.wire.specs.Places.{length_at, share_size_def, write_at_def}
 use Rattle.server.specs.declared.memory.Top.{Top}
 use Rattle.server.specs.declared.memory.Opened.{Opened}
-use Rattle.server.specs.declared.memory.Writes.{Writes}
-use Rattle.server.specs.declared.memory.Writes.TheVariants as writes
-use Rattle.server.specs.declared.memory.MemoryRead.{MemoryRead}
-use Rattle.server.specs.declared.memory.MemoryRead.TheVariants as memories
 
 -- n stored writes stand in the memory d, up to the place e
 abbrev pub Stored : Config → ℕ → List ℕ → List Write → ℕ → Type 0
@@ -93,23 +88,12 @@ NoWrites s n d = (ws : List Write) (e : ℕ) → Stored s n d ws e → distinct 
 abbrev pub no_top : Top
 no_top = record { key = 0; at = 0 }
 
--- document 01's number, and the values: the place past the writes, and the highest of them
-pub record WritesAnswer : Type 0 where
-  pub number : ℕ
-  pub end : ℕ
-  pub top : Top
-
-abbrev pub writes_answer : Writes → WritesAnswer
-writes_answer (writes.Past e top) = record { number = 0; end = e; top = top }
-writes_answer writes.Broken = record { number = no_record; end = 0; top = no_top }
-
--- n writes of the server b of t
-abbrev pub WritesAs : ℕ → ℕ → ℕ → List ℕ → Writes → Type 0
+-- n writes of the server b of t: the place past them, and the highest of them
+abbrev pub WritesAs : ℕ → ℕ → ℕ → List ℕ → rust.Option (ℕ × Top) → Type 0
 WritesAs t b n d r =
-    let a = writes_answer r in
-    ByNumber no_record (Checked d (record { t = t; server = b; count = n; end = a.end; top = a.top })) (NoWrites (shelf t) n d) a.number
+    MatchOption r (NoWrites (shelf t) n d) (λ x. Checked d (record { t = t; server = b; count = n; end = x.0; top = x.1 }))
 
--- ---- the whole memory: what decode_memory gives, by its numbers, the places of its parts, and the highest stored write; or refusal 2
+-- ---- the whole memory: what decode_memory gives, by its numbers, the places of its parts, and the highest stored write; or none, refusal 2
 
 abbrev pub memory_with : List ℕ → Opened → List Write → Memory
 memory_with d told ws = record { t = told.t; server = told.server; latest = candidate_at (shelf told.t) (drop latest_place d); writes = ws }
@@ -119,15 +103,6 @@ pub record OpenedAs (d : List ℕ) (told : Opened) : Type 0 where
   pub holds : Holds d told writes
   pub decoded : decode_memory d ≡ some (memory_with d told writes)
 
--- document 01's number, and the value: what the memory tells
-pub record MemoryAnswer : Type 0 where
-  pub number : ℕ
-  pub opened : Opened
-
-abbrev pub memory_answer : MemoryRead → MemoryAnswer
-memory_answer (memories.Value told) = record { number = 0; opened = told }
-memory_answer memories.Broken = record { number = no_record; opened = record { t = 0; server = 0; count = 0; end = 0; top = no_top } }
-
--- of a memory that has its length
-abbrev pub MemoryAs : List ℕ → MemoryRead → Type 0
-MemoryAs d r = let a = memory_answer r in ByNumber no_record (OpenedAs d a.opened) (decode_memory d ≡ none) a.number
+-- of a memory that has its length: what it tells
+abbrev pub MemoryAs : List ℕ → rust.Option Opened → Type 0
+MemoryAs d r = MatchOption r (decode_memory d ≡ none) (λ told. OpenedAs d told)

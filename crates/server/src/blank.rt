@@ -3,7 +3,7 @@ ghost use Rattle.std.specs.Prelude.{◌≡◌, length, replicate};
 ghost use Rattle.protocol.specs.ServerBytes.{blank_step};
 ghost use Rattle.server.specs.Blank.{blank_latest_def};
 
-use crate::memory::{FAULTS, MemoryRead, SERVER};
+use crate::memory::{FAULTS, SERVER};
 
 // No byte but 00h.
 pub fn clear(memory: &mut [u8])
@@ -41,7 +41,7 @@ pub fn blank_latest(memory: &mut [u8]) -> cluster::Outcome
     if memory.len() != cluster::MEMORY {
         return cluster::refused(cluster::refusals::MEMORY_SIZE);
     }
-    let MemoryRead::Value(opened) = crate::memory::open(memory) else {
+    let Some(opened) = crate::memory::open(memory) else {
         return cluster::refused(cluster::refusals::MEMORY);
     };
     let zeros = [0u8; wire::kept::CANDIDATE_SLOT];

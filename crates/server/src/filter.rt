@@ -21,18 +21,17 @@ fn choose_under(
     opened: Opened,
     list: &[u8],
     count: u8,
-    bound: u64,
+    mut bound: u64,
 ) -> Option<u8>
     requires { 1 ≤ opened.server }
     ensures { ChosenUnder memory.now prepared opened list.now count bound result }
 {
-    let mut rank = next_rank(list, opened.t, count, bound);
-    while 0 < rank {
+    while let Some(rank) = next_rank(list, opened.t, count, bound) {
         let i = slot_with(rank);
         if crate::valid::valid_prepared(memory, prepared, opened, slot(list, opened.t, i)) {
             return Some(i);
         }
-        rank = next_rank(list, opened.t, count, rank);
+        bound = rank;
     }
     None
 }
@@ -43,10 +42,7 @@ fn choose(memory: &[u8], key: [u8; cluster::KEY], opened: Opened, list: &[u8], c
     requires { 1 ≤ opened.server }
     ensures { ChosenAs memory.now key opened list.now count result }
 {
-    let rank = next_rank(list, opened.t, count, crate::rank::ABOVE);
-    if rank == 0 {
-        return None;
-    }
+    let rank = next_rank(list, opened.t, count, crate::rank::ABOVE)?;
     let i = slot_with(rank);
     let candidate = slot(list, opened.t, i);
     let digest = digest_nonce(candidate);

@@ -9,8 +9,7 @@ ghost use Rattle.format.specs.Reading.{bytes_at};
 ghost use Rattle.server.specs.Reads.{SearchAs, FindAs, RepeatsAs, WritesAs, MemoryAs, raised_top};
 
 use wire::bytes::{part, rest};
-use wire::fields::{Cursor, Field};
-use wire::parts::Labelled;
+use wire::fields::{Cursor, byte_field};
 use wire::values::rank_at;
 
 // The places of t, of the server's number, of the count of stored writes, and of the latest candidate.
@@ -37,20 +36,6 @@ pub(crate) struct Opened {
     pub count: usize,
     pub end: usize,
     pub top: Top,
-}
-
-// The place past the stored writes, and the highest of them.
-#[derive(Clone, Copy)]
-pub(crate) enum Writes {
-    Past(usize, Top),
-    Broken,
-}
-
-// What it tells, or refusal 2.
-#[derive(Clone, Copy)]
-pub(crate) enum MemoryRead {
-    Value(Opened),
-    Broken,
 }
 
 // The place of the stored writes.
@@ -128,22 +113,16 @@ fn repeats(memory: &[u8], read: Opened, key: u64) -> bool
     key <= read.top.key && find_ranked(memory, read, key, rest(memory, read.end)).is_some()
 }
 
-// n stored writes, no two of one stamp, from their place on, after the t and the server that were read.
-fn check_writes(memory: &[u8], t: u8, server: u8, n: usize, place: usize) -> Writes
+// n stored writes, no two of one stamp, from their place on, after the t and the server that were read: the place past them, and the highest of them.
+fn check_writes(memory: &[u8], t: u8, server: u8, n: usize, place: usize) -> Option<(usize, Top)>
     requires { (place ≡ writes_place_def (shelf t)) × (place ≤ length memory.now) }
     ensures { WritesAs t server n memory.now result }
 {
     let mut at = place;
     let mut top = Top { key: 0, at: 0 };
-    let mut i = 0;
-    while i < n {
-        let Labelled::Value(label, _, share) = wire::parts::stamp_field(memory, Cursor { at })
-        else {
-            return Writes::Broken;
-        };
-        let Field::Value(_, next) = wire::parts::share_field(memory, share, t) else {
-            return Writes::Broken;
-        };
+    for i in 0..n {
+        let (label, _, share) = wire::parts::stamp_field(memory, Cursor { at })?;
+        let (_, next) = wire::parts::share_field(memory, share, t)?;
         let key = protocol::Stamp::rank_of(label.number, label.writer);
         let read = Opened {
             t,
@@ -153,51 +132,35 @@ fn check_writes(memory: &[u8], t: u8, server: u8, n: usize, place: usize) -> Wri
             top,
         };
         if repeats(memory, read, key) {
-            return Writes::Broken;
+            return None;
         }
         top = raised(top, key, at);
         at = next.at;
-        i += 1;
     }
-    Writes::Past(at, top)
+    Some((at, top))
 }
 
-// The whole memory. All bytes after the last write are joined.
-pub(crate) fn open(memory: &[u8]) -> MemoryRead
+// What the whole memory tells; none is refusal 2. All bytes after the last write are joined.
+pub(crate) fn open(memory: &[u8]) -> Option<Opened>
     requires { length memory.now ≡ memory_size }
     ensures { MemoryAs memory.now result }
 {
-    let Field::Value(t, c1) = wire::fields::byte_field(
-        memory,
-        Cursor { at: FAULTS },
-        1,
-        cluster::TOP_FAULTS as u32,
-    ) else {
-        return MemoryRead::Broken;
+    let start = Cursor { at: FAULTS };
+    let (faults, past_t) = byte_field(memory, start, 1, cluster::TOP_FAULTS as u32)?;
+    let t = faults as u8;
+    let servers = cluster::servers(t);
+    let (number, past_server) = byte_field(memory, past_t, 1, servers as u32)?;
+    let (n, past_count) = byte_field(memory, past_server, 0, cluster::CAPACITY as u32)?;
+    let (_, _, past_latest) = wire::parts::any_candidate_field(memory, past_count, t)?;
+    let server = number as u8;
+    let count = n as usize;
+    let (end, top) = check_writes(memory, t, server, count, past_latest.at)?;
+    let opened = Opened {
+        t,
+        server,
+        count,
+        end,
+        top,
     };
-    let servers = cluster::servers(t as u8);
-    let Field::Value(server, c2) = wire::fields::byte_field(memory, c1, 1, servers as u32) else {
-        return MemoryRead::Broken;
-    };
-    let Field::Value(n, c3) = wire::fields::byte_field(memory, c2, 0, cluster::CAPACITY as u32)
-    else {
-        return MemoryRead::Broken;
-    };
-    let Labelled::Value(_, _, c4) = wire::parts::any_candidate_field(memory, c3, t as u8) else {
-        return MemoryRead::Broken;
-    };
-    let Writes::Past(end, top) = check_writes(memory, t as u8, server as u8, n as usize, c4.at)
-    else {
-        return MemoryRead::Broken;
-    };
-    if wire::bytes::all_zero(rest(memory, end)) {
-        return MemoryRead::Value(Opened {
-            t: t as u8,
-            server: server as u8,
-            count: n as usize,
-            end,
-            top,
-        });
-    }
-    MemoryRead::Broken
+    wire::bytes::all_zero(rest(memory, end)).then_some(opened)
 }

@@ -1,8 +1,8 @@
 // The order in which a list's candidates are tried: from the highest stamp down, the first among equals.
-// A slot's rank is one number for its stamp's rank and the slot, so that no two slots have one rank, and 0 is no slot's.
+// A slot's rank is one number for its stamp's rank and the slot, so that no two slots have one rank.
 ghost use Rattle.std.specs.Prelude.{◌≡◌};
 ghost use Rattle.cluster.specs.Config.{shelf};
-ghost use Rattle.server.specs.Ranks.{slot_of, rank_of, slot_with_def, under, next_rank_def};
+ghost use Rattle.server.specs.Ranks.{slot_of, rank_of, slot_with_def, next_rank_def};
 
 use wire::sizes::candidate_size;
 
@@ -13,14 +13,14 @@ pub const ABOVE: u64 = 281474976710656;
 pub(crate) fn slot(list: &[u8], t: u8, i: u8) -> &[u8]
     ensures { result.now ≡ slot_of (shelf t) list.now i }
 {
-    wire::bytes::part(list, candidate_size(t) * (i as usize), candidate_size(t))
+    wire::bytes::part(list, candidate_size(t) * usize::from(i), candidate_size(t))
 }
 
 // The rank of slot i.
 fn rank_at(list: &[u8], t: u8, i: u8) -> u64
     ensures { result ≡ rank_of (shelf t) list.now i }
 {
-    256 * wire::values::rank_at(slot(list, t, i)) + ((255 - i) as u64)
+    256 * wire::values::rank_at(slot(list, t, i)) + u64::from(255 - i)
 }
 
 // The slot with a rank.
@@ -30,20 +30,16 @@ pub(crate) fn slot_with(rank: u64) -> u8
     (255 - rank % 256) as u8
 }
 
-// A rank below bound, else 0.
-fn under(rank: u64, bound: u64) -> u64
-    ensures { result ≡ under rank bound }
-{
-    if rank < bound { rank } else { 0 }
-}
-
-// The highest rank below bound among the first n slots; 0 where there is none.
-pub(crate) fn next_rank(list: &[u8], t: u8, n: u8, bound: u64) -> u64
+// The highest rank below bound among the first n slots, if there is one.
+pub(crate) fn next_rank(list: &[u8], t: u8, n: u8, bound: u64) -> Option<u64>
     ensures { result ≡ next_rank_def (shelf t) list.now n bound }
 {
-    let mut best = 0;
+    let mut best = None;
     for i in 0..n {
-        best = best.max(under(rank_at(list, t, i), bound));
+        let rank = rank_at(list, t, i);
+        if rank < bound {
+            best = best.max(Some(rank));
+        }
     }
     best
 }

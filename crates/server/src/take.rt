@@ -7,8 +7,8 @@ ghost use Rattle.protocol.specs.ServerBytes.{server_take};
 ghost use Rattle.wire.specs.Places.{packet_at, body_number};
 ghost use Rattle.server.specs.Answers.{EveryPacket, NumberAt, AnswersAny};
 
-use crate::memory::{MemoryRead, Opened, open};
-use wire::packet::{PacketRead, Passed, read_packet};
+use crate::memory::{Opened, open};
+use wire::packet::{Passed, read_packet};
 
 // Whether a client may not send a store or complete of this stamp: only a writer may, and only with a stamp of its own.
 fn foreign(client: u8, label: protocol::Label) -> bool
@@ -86,10 +86,10 @@ pub fn take(
     if memory.len() != cluster::MEMORY {
         return cluster::refused(cluster::refusals::MEMORY_SIZE);
     }
-    let MemoryRead::Value(opened) = open(memory) else {
+    let Some(opened) = open(memory) else {
         return cluster::refused(cluster::refusals::MEMORY);
     };
-    let PacketRead::Value(passed) = read_packet(packet) else {
+    let Some(passed) = read_packet(packet) else {
         return cluster::refused(cluster::refusals::LAYOUT);
     };
     let number = refusal(passed.head, passed.label, opened, out.len());
