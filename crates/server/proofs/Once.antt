@@ -55,7 +55,7 @@ module _ (d : List ℕ) (told : Opened) (bs : Bytes d) {x : List ℕ} (p : x ≡
       sym (ap is_some (sym (found-held f ws) ∙ ap share_in_def o))
 
   pub repeats_as : (r : rust.Option ℕ) → FindAs d told x r → RepeatsAs d told (std.is_some r)
-  repeats_as (Some k) g ws next h f = sym (ap is_some (sym (found-held f ws) ∙ ap share_in_def (g ws h).first))
+  repeats_as (Some k) g = λ ws next h f. sym (ap is_some (sym (found-held f ws) ∙ ap share_in_def (g ws h).first))
   repeats_as None g = repeats_none refl g
 
 -- ---- the highest of the writes, with one more

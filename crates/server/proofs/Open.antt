@@ -23,8 +23,9 @@ use Rattle.protocol.proofs.Packets.{write_law}
 use Rattle.format.proofs.Repeats.{many_law}
 use Rattle.format.proofs.Walks.{Reads, decide, leaves_moved, many-count}
 use Rattle.wire.specs.Reads.{TookAt, byte_l, any_candidate_l}
+use Rattle.std.specs.Bool.{then_some}
 use Rattle.server.specs.declared.memory.Top.{Top}
-use Rattle.server.specs.Reads.{Stored, Checked, NoWrites, OpenedAs}
+use Rattle.server.specs.Reads.{Stored, Checked, NoWrites, OpenedAs, MemoryAs}
 
 -- ---- the parts
 
@@ -120,10 +121,11 @@ module _ {d : List ℕ} (size : length d ≡ memory_size) where
               go (inr f) = memory_short f
 
           module _ {e : ℕ} {top : Top} (w : Checked d (record { t = t; server = b; count = n; end = e; top = top })) where
-            pub opens : {o : List ℕ} → o ≡ drop e d → {c : Bool} → c ≡ zeros o → c ≡ true
+            opens : Bytes d → {o : List ℕ} → o ≡ drop e d → {c : Bool} → c ≡ zeros o → c ≡ true
                 → OpenedAs d (record { t = t; server = b; count = n; end = e; top = top })
-            opens f g i =
+            opens bs f g i =
                 record {
+                  bytes = bs;
                   writes = w.writes;
                   holds = w.holds;
                   decoded = subst (λ (j : ℕ). decode_memory d ≡ some (record {
@@ -136,5 +138,14 @@ module _ {d : List ℕ} (size : length d ≡ memory_size) where
                       at-latest (memory-opens d size (memory-there w.holds.there w.once) (tail d e f g i));
                 }
 
-            pub no-tail : {o : List ℕ} → o ≡ drop e d → {c : Bool} → c ≡ zeros o → c ≡ false → decode_memory d ≡ none
+            no-tail : {o : List ℕ} → o ≡ drop e d → {c : Bool} → c ≡ zeros o → c ≡ false → decode_memory d ≡ none
             no-tail f g i = memory-tail d size (memory-there w.holds.there w.once) (tail d e f g i)
+
+            -- what is told of the memory, by its last test
+            pub opens-as : Bytes d → {o : List ℕ} → o ≡ drop e d → {c : Bool} → c ≡ zeros o
+                → MemoryAs d (then_some c (record { t = t; server = b; count = n; end = e; top = top }))
+            opens-as bs {o} f {c} g = go c refl
+              where
+                go : (a : Bool) → c ≡ a → MemoryAs d (then_some a (record { t = t; server = b; count = n; end = e; top = top }))
+                go true q = opens bs f g q
+                go false q = no-tail f g q

@@ -17,6 +17,9 @@ use Rattle.protocol.specs.Values.{candidate_size_def, rank}
 use Rattle.protocol.specs.View.{stamp_at_def}
 use Rattle.format.specs.Reading.{bytes_at}
 use Rattle.format.proofs.Answers.{at-cond, bytes_drop}
+use Rattle.std.proofs.lemmas.Grind.{common_steps}
+use Rattle.std.specs.Ordering.{ord_max, nat_cmp}
+use Rattle.std.specs.Option.{option_cmp}
 use Rattle.std.specs.declared.option.Option.{Option}
 use Rattle.std.specs.Prelude.{Some, None, MatchOption}
 use Rattle.server.specs.Ranks.{slot_of, rank_of, slot_with_def, higher_of, next_rank_def}
@@ -149,3 +152,23 @@ module _ (s : Config) (y : List ℕ) where
   unfolding next_rank_def
   next_is zero bound = λ j l. absurd (omega arith)
   next_is (suc n) bound = step n bound (ltb (rank_of s y n) bound) refl (next_rank_def s y n bound) (next_is n bound)
+
+  -- ---- one more slot, as the code tests it
+
+  max-higher : (o : Option ℕ) (r : ℕ) → ord_max (option_cmp nat_cmp) o (Some r) ≡ higher_of o r
+  max-higher None r = refl
+  max-higher (Some a) r = grind (arith, common_steps)
+
+  pub next-higher : (n bound : ℕ) {best up : Option ℕ} {r : ℕ} → best ≡ next_rank_def s y n bound → r ≡ rank_of s y n → r < bound
+      → up ≡ ord_max (option_cmp nat_cmp) best (Some r) → up ≡ next_rank_def s y (n + 1) bound
+  unfolding next_rank_def
+  next-higher n bound {best} {up} {r} p q l u =
+      let m : rank_of s y n < bound = omega (arith, q, l) in
+      rw (add-one, lt-ltb (rank_of s y n) bound m) (u ∙ max-higher best r ∙ (λ i. higher_of (p i) (q i)))
+
+  pub next-same : (n bound : ℕ) {best : Option ℕ} {r : ℕ} → best ≡ next_rank_def s y n bound → r ≡ rank_of s y n → bound ≤ r
+      → best ≡ next_rank_def s y (n + 1) bound
+  unfolding next_rank_def
+  next-same n bound p q l =
+      let m : bound ≤ rank_of s y n = omega (arith, q, l) in
+      rw (add-one, le-ltb (rank_of s y n) bound m) p

@@ -31,6 +31,8 @@ use Rattle.server.specs.declared.memory.Top.{Top}
 use Rattle.server.specs.declared.memory.Opened.{Opened}
 use Rattle.std.specs.declared.option.Option as rust
 use Rattle.std.specs.Prelude.{Some, None}
+use Rattle.std.specs.Option as std
+use lib.Dec.{T}
 use Rattle.server.specs.Reads.{first_with, FindIs, FindAs, OpenedAs}
 use Rattle.server.specs.Answers.{memory_in, ToServer, reply_head_def, kept_bytes}
 use Rattle.server.proofs.Finding.{share_in_def, first-held}
@@ -102,34 +104,36 @@ module _ {d : List ℕ} (bs : Bytes d) (packet : List ℕ) (ps : Bytes packet) (
   unfolding code_f such byte
   code_alone c = refl
 
-  module _ {x : List ℕ} (p : x ≡ drop head_size packet) {f : rust.Option ℕ} (g : FindAs d (told_to h n e top) x f) where
-    is_held : {at : ℕ} → f ≡ Some at → is_some (lookup written.stamp o.writes) ≡ true
-    is_held t =
-        let i = subst (λ (y : rust.Option ℕ). FindIs (shelf h.t) d (first_with (bytes_at x 0 stamp_size) o.writes) y) t
-        (g o.writes o.holds) in
-        ap is_some (sym (found-held p) ∙ ap share_in_def i.first)
+  module _ {x : List ℕ} (p : x ≡ drop head_size packet) (f : rust.Option ℕ) (g : FindAs d (told_to h n e top) x f) where
+    is_held : std.is_some f ≡ true → is_some (lookup written.stamp o.writes) ≡ true
+    is_held t = go f g t
+      where
+        go : (r : rust.Option ℕ) → FindAs d (told_to h n e top) x r → std.is_some r ≡ true → is_some (lookup written.stamp o.writes) ≡ true
+        go (Some at) g t = ap is_some (sym (found-held p) ∙ ap share_in_def (g o.writes o.holds).first)
+        go None g t = absurd (subst T (sym t) tt)
 
-    is_new_lem : f ≡ None → is_some (lookup written.stamp o.writes) ≡ false
-    is_new_lem t =
-        let i : first_with (bytes_at x 0 stamp_size) o.writes ≡ none = subst (λ (y : rust.Option ℕ). FindIs (shelf h.t) d
-        (first_with (bytes_at x 0 stamp_size) o.writes) y) t (g o.writes o.holds) in
-        ap is_some (sym (found-held p) ∙ ap share_in_def i)
+    is_new_lem : std.is_some f ≡ false → is_some (lookup written.stamp o.writes) ≡ false
+    is_new_lem t = go f g t
+      where
+        go : (r : rust.Option ℕ) → FindAs d (told_to h n e top) x r → std.is_some r ≡ false → is_some (lookup written.stamp o.writes) ≡ false
+        go (Some at) g t = absurd (subst T t tt)
+        go None g t = ap is_some (sym (found-held p) ∙ ap share_in_def (g o.writes o.holds))
 
-    held_here : {r : Outcome} {out : List ℕ} {at : ℕ} → f ≡ Some at → record { result = r; output = out } ≡ packet_step (reply_head_def h 4)
+    held_here : {r : Outcome} {out : List ℕ} → std.is_some f ≡ true → record { result = r; output = out } ≡ packet_step (reply_head_def h 4)
         (10 ∷ []) [] output
         → record { result = r; memory = d; output = out } ≡ acted_on real d key packet output (some (memory_in o)) (decode packet)
     held_here t w =
         replied_as key packet output h o dec room (store written) the-body _ (step-held true (is_held t) refl) (10 ∷ []) [] (unchanged o bs)
         (code_alone 10) w
 
-    full_here : {r : Outcome} {out : List ℕ} → f ≡ None → capacity ≤ n → record { result = r; output = out } ≡ packet_step
+    full_here : {r : Outcome} {out : List ℕ} → std.is_some f ≡ false → capacity ≤ n → record { result = r; output = out } ≡ packet_step
         (reply_head_def h 4) (11 ∷ []) [] output
         → record { result = r; memory = d; output = out } ≡ acted_on real d key packet output (some (memory_in o)) (decode packet)
     full_here t l w =
         replied_as key packet output h o dec room (store written) the-body _ (step_full false (is_new_lem t) refl l) (11 ∷ []) [] (unchanged o bs)
         (code_alone 11) w
 
-    kept_here : {r : Outcome} {out : List ℕ} → f ≡ None → n < capacity → {m : List ℕ} → m ≡ kept_bytes d (told_to h n e top) x
+    kept_here : {r : Outcome} {out : List ℕ} → std.is_some f ≡ false → n < capacity → {m : List ℕ} → m ≡ kept_bytes d (told_to h n e top) x
         → record { result = r; output = out } ≡ packet_step (reply_head_def h 4) (0 ∷ []) [] output
         → record { result = r; memory = m; output = out } ≡ acted_on real d key packet output (some (memory_in o)) (decode packet)
     kept_here t l u w =
@@ -150,29 +154,29 @@ module _ {d : List ℕ} (bs : Bytes d) (packet : List ℕ) (ps : Bytes packet) (
 
 module _ {d : List ℕ} (bs : Bytes d) (packet : List ℕ) (ps : Bytes packet) (output : List ℕ) (h : Head) {told : Opened} (key : List ℕ)
     (o : OpenedAs d told) (own : ToServer h told) (dec : decode packet ≡ some (packet_at h packet)) (k : h.kind ≡ 3)
-    (room : packet_room ≤ length output) {x : List ℕ} (p : x ≡ drop head_size packet) {f : rust.Option ℕ} (g : FindAs d told x f) where
-  pub answer-held : {r : Outcome} {out : List ℕ} {at : ℕ} → f ≡ Some at
+    (room : packet_room ≤ length output) {x : List ℕ} (p : x ≡ drop head_size packet) (f : rust.Option ℕ) (g : FindAs d told x f) where
+  pub answer-held : {r : Outcome} {out : List ℕ} → std.is_some f ≡ true
       → record { result = r; output = out } ≡ packet_step (reply_head_def h 4) (10 ∷ []) [] output
       → record { result = r; memory = d; output = out } ≡ acted_on real d key packet output (some (memory_in o)) (decode packet)
   answer-held {r} {out} t w =
       let answer : Served = record { result = r; memory = d; output = out } in
       to-server h own (λ z. FindAs d z x f → (o : OpenedAs d z) → answer ≡ acted_on real d key packet output (some (memory_in o)) (decode packet))
-      (λ n e top g o. held_here bs packet ps output h key o dec k room p g t w) g o
+      (λ n e top g o. held_here bs packet ps output h key o dec k room p f g t w) g o
 
-  pub answer_full : {r : Outcome} {out : List ℕ} → f ≡ None → capacity ≤ told.count
+  pub answer_full : {r : Outcome} {out : List ℕ} → std.is_some f ≡ false → capacity ≤ told.count
       → record { result = r; output = out } ≡ packet_step (reply_head_def h 4) (11 ∷ []) [] output
       → record { result = r; memory = d; output = out } ≡ acted_on real d key packet output (some (memory_in o)) (decode packet)
   answer_full {r} {out} t l w =
       let answer : Served = record { result = r; memory = d; output = out } in
       to-server h own (λ z. FindAs d z x f → capacity ≤ z.count
       → (o : OpenedAs d z) → answer ≡ acted_on real d key packet output (some (memory_in o)) (decode packet))
-      (λ n e top g l o. full_here bs packet ps output h key o dec k room p g t l w) g l o
+      (λ n e top g l o. full_here bs packet ps output h key o dec k room p f g t l w) g l o
 
-  pub answer-kept : {r : Outcome} {out : List ℕ} → f ≡ None → told.count < capacity → {m : List ℕ} → m ≡ kept_bytes d told x
+  pub answer-kept : {r : Outcome} {out : List ℕ} → std.is_some f ≡ false → told.count < capacity → {m : List ℕ} → m ≡ kept_bytes d told x
       → record { result = r; output = out } ≡ packet_step (reply_head_def h 4) (0 ∷ []) [] output
       → record { result = r; memory = m; output = out } ≡ acted_on real d key packet output (some (memory_in o)) (decode packet)
   answer-kept {r} {out} t l {m} u w =
       let answer : Served = record { result = r; memory = m; output = out } in
       to-server h own (λ z. FindAs d z x f → z.count < capacity → m ≡ kept_bytes d z x
       → (o : OpenedAs d z) → answer ≡ acted_on real d key packet output (some (memory_in o)) (decode packet))
-      (λ n e top g l u o. kept_here bs packet ps output h key o dec k room p g t l u w) g l u o
+      (λ n e top g l u o. kept_here bs packet ps output h key o dec k room p f g t l u w) g l u o

@@ -1,5 +1,6 @@
 -- The latest candidate made blank: one equation for each way, and the bytes. A blank candidate's bytes are zeros. Assumes nothing.
-use mathlib.Core.Path.{◌≡◌, sym, ap, ◌∙◌}
+use mathlib.Core.Path.{◌≡◌, sym, ap, ◌∙◌, subst}
+use Rattle.std.specs.Prelude.{Option, Some, None, Result, Ok, Err, MatchOption, ok_or}
 use mathlib.Core.List.{List}
 use mathlib.Core.Option.{none}
 use Prim.Native.Nat.{ℕ, ◌+◌, ◌*◌, ◌≤◌}
@@ -29,6 +30,16 @@ use Rattle.server.proofs.Standing.{memory-bytes, memory-size_of, memory-fields}
 candidate-most : (t : ℕ) → t ≤ top_faults → candidate_size_def (shelf t) ≤ stamp_size + nonce_size + tag_size * most_servers
 unfolding shelf
 candidate-most t h = omega arith
+
+-- what an answer that is there or not says, where none is made a refusal
+module _ {A E : Type 0} (P : Type 0) (Q : A → Type 0) where
+  pub ok_or-err : (o : Option A) (e y : E) → ok_or o e ≡ Err y → MatchOption o P Q → P × (y ≡ e)
+  ok_or-err None e y q h = (h, cc)
+  ok_or-err (Some a) e y q h = absurd (cc)
+
+  pub ok_or-ok : (o : Option A) (e : E) (x : A) → ok_or o e ≡ Ok x → MatchOption o P Q → Q x
+  ok_or-ok None e x q h = absurd (cc)
+  ok_or-ok (Some a) e x q h = let s : a ≡ x = cc in subst Q s h
 
 module _ (d : List ℕ) where
   pub latest-size : (length d ≡ memory_size → ⊥) → blanked 1 d ≡ blank_latest_def d

@@ -4,7 +4,7 @@ use Rattle.std.specs.Prelude.{◌≡◌, Bool, true, cond, List, [], ◌∷◌, 
 use Rattle.std.specs.declared.option.Option as rust
 use Rattle.std.proofs.Math.Option.{Option, none, some}
 use Rattle.cluster.specs.Config.{Config, shelf}
-use Rattle.format.specs.Format.{many}
+use Rattle.format.specs.Format.{Bytes, many}
 use Rattle.protocol.specs.Values.{Write, same_list, is_some, rank, stamp_size}
 use Rattle.protocol.specs.Packet.{stamp_f, write_f}
 use Rattle.protocol.specs.Memory.{Memory, lookup, distinct, decode_memory, latest_place, writes_place_def}
@@ -99,6 +99,7 @@ abbrev pub memory_with : List ℕ → Opened → List Write → Memory
 memory_with d told ws = record { t = told.t; server = told.server; latest = candidate_at (shelf told.t) (drop latest_place d); writes = ws }
 
 pub record OpenedAs (d : List ℕ) (told : Opened) : Type 0 where
+  pub bytes : Bytes d
   pub writes : List Write
   pub holds : Holds d told writes
   pub decoded : decode_memory d ≡ some (memory_with d told writes)

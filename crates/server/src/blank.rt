@@ -1,9 +1,11 @@
 // Making a server blank, and its latest candidate only.
 ghost use Rattle.std.specs.Prelude.{◌≡◌, length, replicate};
+ghost use Rattle.cluster.specs.Refusals.{done_told};
 ghost use Rattle.protocol.specs.ServerBytes.{blank_step};
 ghost use Rattle.server.specs.Blank.{blank_latest_def};
 
-use crate::memory::{FAULTS, SERVER};
+use crate::memory::{FAULTS, LATEST, SERVER};
+use cluster::Refusal;
 
 // No byte but 00h.
 pub fn clear(memory: &mut [u8])
@@ -13,45 +15,34 @@ pub fn clear(memory: &mut [u8])
 }
 
 // A new server, blank, whatever the memory held.
-pub fn blank(memory: &mut [u8], t: usize, server: usize) -> cluster::Outcome
-    ensures { record { result = result; memory = memory.new } ≡ blank_step memory.old t server }
+pub fn blank(memory: &mut [u8], t: usize, server: usize) -> Result<(), Refusal>
+    ensures { record { result = done_told result; memory = memory.new } ≡ blank_step memory.old t server }
 {
     if memory.len() != cluster::MEMORY {
-        return cluster::refused(cluster::refusals::MEMORY_SIZE);
+        return Err(Refusal::MemorySize);
     }
     if cluster::outside(1, cluster::TOP_FAULTS, t) {
-        return cluster::refused(cluster::refusals::FAULTS);
+        return Err(Refusal::Faults);
     }
     if cluster::outside(1, cluster::servers(t as u8), server) {
-        return cluster::refused(cluster::refusals::SERVER);
+        return Err(Refusal::Server);
     }
     clear(memory);
     memory[FAULTS] = t as u8;
     memory[SERVER] = server as u8;
-    cluster::Outcome {
-        number: 0,
-        count: 0,
-    }
+    Ok(())
 }
 
 // The latest candidate becomes blank, and the history stays.
-pub fn blank_latest(memory: &mut [u8]) -> cluster::Outcome
-    ensures { record { result = result; memory = memory.new } ≡ blank_latest_def memory.old }
+pub fn blank_latest(memory: &mut [u8]) -> Result<(), Refusal>
+    ensures { record { result = done_told result; memory = memory.new } ≡ blank_latest_def memory.old }
 {
     if memory.len() != cluster::MEMORY {
-        return cluster::refused(cluster::refusals::MEMORY_SIZE);
+        return Err(Refusal::MemorySize);
     }
-    let Some(opened) = crate::memory::open(memory) else {
-        return cluster::refused(cluster::refusals::MEMORY);
-    };
+    let opened = crate::memory::open(memory).ok_or(Refusal::Memory)?;
     let zeros = [0u8; wire::kept::CANDIDATE_SLOT];
-    wire::make::put(
-        memory,
-        crate::memory::LATEST,
-        wire::bytes::part(&zeros, 0, wire::sizes::candidate_size(opened.t)),
-    );
-    cluster::Outcome {
-        number: 0,
-        count: 0,
-    }
+    let candidate = wire::bytes::part(&zeros, 0, wire::sizes::candidate_size(opened.t));
+    wire::make::put(memory, LATEST, candidate);
+    Ok(())
 }

@@ -38,7 +38,13 @@ fn choose_under(
 
 // Candidates are tested from the highest rank down, up to the first valid one: a test costs a digest and a tag. Where the highest is
 // held, no tag is needed; else the key is prepared, once for all of them.
-fn choose(memory: &[u8], key: [u8; cluster::KEY], opened: Opened, list: &[u8], count: u8) -> Option<u8>
+fn choose(
+    memory: &[u8],
+    key: [u8; cluster::KEY],
+    opened: Opened,
+    list: &[u8],
+    count: u8,
+) -> Option<u8>
     requires { 1 ≤ opened.server }
     ensures { ChosenAs memory.now key opened list.now count result }
 {

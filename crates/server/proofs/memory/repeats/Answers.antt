@@ -10,11 +10,11 @@ find_ranked-requires c = rw c.rest.ensures c.requires
 
 pub returns-then-key-read : goal.returns-then-key-read
 returns-then-key-read c =
-    rw c.is_some.ensures (repeats_as c.args.memory.now c.args.read c.type_inv.memory c.rest.ensures c.find_ranked.result c.find_ranked.ensures)
+    rw c.is_some.ensures (repeats_as c.args.memory.now c.args.read (λ i. (c.type_inv.memory i).fits) c.rest.ensures c.find_ranked.result c.find_ranked.ensures)
 
 pub returns-else-key-read : goal.returns-else-key-read
 returns-else-key-read c =
     let x = drop c.args.read.end c.args.memory.now in
     rw (lt-leb _ _ c.if-key-read.false)
-    (repeats_none c.args.memory.now c.args.read c.type_inv.memory refl refl
+    (repeats_none c.args.memory.now c.args.read (λ i. (c.type_inv.memory i).fits) refl refl
     (find-above c.args.memory.now c.args.read x refl c.requires c.if-key-read.false))

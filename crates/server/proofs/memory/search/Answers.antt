@@ -18,7 +18,7 @@ loop-init c = walk_none _ _ _ _ c.writes_place-at.ensures
 
 pub returns-then-same : goal.returns-then-same
 returns-then-same c =
-    walk-found c.loop.invariant c.type_inv.memory (omega arith) c.rest-write.ensures c.part.ensures c.same.ensures c.if-same.true
+    walk-found c.loop.invariant (λ i. (c.type_inv.memory i).fits) (omega arith) c.rest-write.ensures c.part.ensures c.same.ensures c.if-same.true
 
 pub overflow_add-size : goal.overflow_add-size
 unfolding share_size_def shelf
@@ -33,13 +33,13 @@ overflow_add-size c =
 
 pub returns-then-write-size : goal.returns-then-write-size
 returns-then-write-size c =
-    walk_short c.loop.invariant c.type_inv.memory (omega arith) c.rest-write.ensures
+    walk_short c.loop.invariant (λ i. (c.type_inv.memory i).fits) (omega arith) c.rest-write.ensures
     (size-told c.args.t c.args.memory.now c.loop.at c.rest-write.ensures c.rest.ensures c.number2-length.ensures c.share_size-frame.ensures
     c.fragment_size.ensures) c.if-write-size.true
 
 pub loop-preserved : goal.loop-preserved
 loop-preserved c =
-    walk_more c.loop.invariant c.type_inv.memory (omega arith) c.rest-write.ensures c.part.ensures c.same.ensures c.if-same.false
+    walk_more c.loop.invariant (λ i. (c.type_inv.memory i).fits) (omega arith) c.rest-write.ensures c.part.ensures c.same.ensures c.if-same.false
     (size-told c.args.t c.args.memory.now c.loop.at c.rest-write.ensures c.rest.ensures c.number2-length.ensures c.share_size-frame.ensures
     c.fragment_size.ensures)
 

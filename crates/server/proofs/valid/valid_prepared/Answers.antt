@@ -1,0 +1,14 @@
+-- By the history, else by the tag, whatever key was prepared. Assumes nothing.
+use Rattle.server.proofs.Testing.{valid-history, valid-tag}
+use Rattle.server.proofs.valid.valid_prepared.Goals as goal
+
+pub returns-then-by_history : goal.returns-then-by_history
+returns-then-by_history c key made =
+    rw c.if-by_history.true
+    (valid-history c.args.memory.now key c.args.opened c.args.candidate.now c.digest_nonce-digest.ensures c.by_history.ensures
+    c.if-by_history.true)
+
+pub returns-else-by_history : goal.returns-else-by_history
+returns-else-by_history c key made =
+    valid-tag c.args.memory.now key c.args.opened c.args.candidate.now c.digest_nonce-digest.ensures c.by_history.ensures
+    c.if-by_history.false made c.by_tag.ensures
