@@ -16,7 +16,7 @@ use Rattle.atomicity.specs.Claim.{OnBytes}
 use Rattle.atomicity.proofs.Through.{read_rounds, repaired_rounds, rounds_by, finishes}
 use Rattle.atomicity.proofs.Replied.{ByReplies}
 use Rattle.atomicity.proofs.Requests.{ByRequests, counted-requests, counted_replies}
-use Rattle.planner.specs.declared.PlanOutcome.{PlanOutcome}
+use Rattle.planner.specs.Plan.{PlanOutcome}
 use Rattle.planner.specs.Plan.{plan_step, packet_counts}
 use Rattle.planner.proofs.Entries.{plan-made, plan-number}
 use Rattle.planned.specs.Counted.{ends_write, ends_read, ends_repaired, Finished, requests_of, replies_of, total, Together, CountsPlanned}

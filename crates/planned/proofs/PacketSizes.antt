@@ -18,7 +18,7 @@ use Rattle.protocol.specs.Client.{Hand, request, idle, clocking, storing, comple
 use Rattle.protocol.proofs.Bodies.{decode-encode, encode-decode, decode-ok, body_ok}
 use Rattle.protocol.proofs.Lengths.{held_share_size, body_size, packet-size}
 use Rattle.runs.proofs.RequestLengths.{request_size, list_asked}
-use Rattle.planner.specs.declared.PlanOutcome.{PlanOutcome}
+use Rattle.planner.specs.Plan.{PlanOutcome}
 use Rattle.planner.specs.Plan.{filter_size, held_sizes, plan_refusal_def, plan_of}
 use Rattle.planner.proofs.Bounds.{servers-most}
 use Rattle.planner.proofs.Refused.{plans}

@@ -25,7 +25,7 @@ use Rattle.protocol.proofs.Bodies.{decode-encode, decode-nothing}
 use Rattle.protocol.proofs.ServerLift.{Holds, Lifted, memory-ok, holds_decodes, blank-holds, serve_lift}
 use Rattle.protocol.proofs.Memories.{writes_size, fields_size, fields-length, same_size}
 use Rattle.format.proofs.Walks.{all_snoc}
-use Rattle.planner.specs.declared.PlanOutcome.{PlanOutcome}
+use Rattle.planner.specs.Plan.{PlanOutcome}
 use Rattle.planner.proofs.Entries.{plan-made, plan-number}
 use Rattle.planned.specs.Stored.{added_by, reply_of, kept_by, Given, FilledTo, memory_after_def, served, stored_after, StoreKept, AllKept, MemoryPlanned}
 

@@ -12,7 +12,7 @@ use Rattle.protocol.specs.Client.{accepted, more}
 use Rattle.protocol.specs.ServerBytes.{server_take}
 use Rattle.runs.specs.Runs.{Account, length_after}
 use Rattle.atomicity.specs.Steps.{System, StepIn, makes}
-use Rattle.planner.specs.declared.PlanOutcome.{PlanOutcome}
+use Rattle.planner.specs.Plan.{PlanOutcome}
 use Rattle.planner.specs.Plan.{plan_step}
 use Rattle.planned.specs.Stored.{reply_of}
 

@@ -1,14 +1,16 @@
 -- A plan of a lab (document 02, W-201): what the packets and memories of a shelf take, for contents of n bytes, so many clients that read together,
 -- and so many stores. All lengths are those of the layout. crate planned shows that they are the lengths and counts of what is really made.
 use Rattle.std.specs.Prelude.{not, cond, List, [], ◌∷◌, ℕ, ◌+◌, ◌*◌, leb, ltb, replicate}
+use Rattle.std.specs.Prelude.{Result, Ok, Err}
 use Rattle.cluster.specs.Config.{Config, shelf}
 use Rattle.cluster.specs.Ranges.{within, top_faults, most_servers, top_client, top_length, capacity}
-use Rattle.cluster.specs.Refusals.{refuse, first_of, on_refusal}
+use Rattle.cluster.specs.Refusals.{refuse, first_of, on_refusal, refusal_number}
+use Rattle.cluster.specs.declared.Refusal.{Refusal}
 use Rattle.erasure.specs.Fragments.{table}
 use Rattle.protocol.specs.Values.{stamp_size, candidate_size_def}
 use Rattle.protocol.specs.Packet.{head_size, share_size_def}
 use Rattle.protocol.specs.Memory.{writes_place_def}
-use Rattle.planner.specs.declared.PlanOutcome.{PlanOutcome}
+use Rattle.planner.specs.declared.LabPlan.{LabPlan}
 
 -- a stored write of a content of n bytes
 abbrev pub stored_size_def : Config → ℕ → ℕ
@@ -83,6 +85,15 @@ plan_refusal_def t n readers stores =
     ∷ refuse 18 (ltb capacity stores)
     ∷ [])
 
+-- a refusal's number or 0, and what is planned, all 0 where it is refused
+pub record PlanOutcome : Type 0 where
+  pub number : ℕ
+  pub kinds : List ℕ
+  pub filters : List ℕ
+  pub held : List ℕ
+  pub packets : List ℕ
+  pub memory : ℕ
+
 -- what is planned
 abbrev pub plan_of : (t n readers stores : ℕ) → PlanOutcome
 plan_of t n readers stores =
@@ -107,6 +118,14 @@ no_plan number =
       packets = replicate 6 0;
       memory = 0;
     }
+
+-- what an answer tells
+abbrev pub made_plan : LabPlan → PlanOutcome
+made_plan p = record { number = 0; kinds = p.kinds; filters = p.filters; held = p.held; packets = p.packets; memory = p.memory }
+
+abbrev pub plan_told : Result LabPlan Refusal → PlanOutcome
+plan_told (Ok p) = made_plan p
+plan_told (Err why) = no_plan (refusal_number why)
 
 unfoldable pub plan_step : (t n readers stores : ℕ) → PlanOutcome
 plan_step t n readers stores =

@@ -3,9 +3,12 @@
 
 ghost use Rattle.std.specs.Prelude.{◌≡◌, ◌+◌, ◌≤◌};
 ghost use Rattle.cluster.specs.Config.{shelf};
+ghost use Rattle.cluster.specs.Refusals.{number_told};
 ghost use Rattle.cluster.specs.Ranges.{top_faults, most_servers, top_client, top_length, capacity};
 ghost use Rattle.erasure.specs.Fragments.{table};
-ghost use Rattle.planner.specs.Plan.{stored_size_def, kind_sizes, filter_size, held_sizes, packet_counts, fields_after, plan_refusal_def, plan_step};
+ghost use Rattle.planner.specs.Plan.{stored_size_def, kind_sizes, filter_size, held_sizes, packet_counts, fields_after, plan_refusal_def, plan_told, plan_step};
+
+use cluster::Refusal;
 
 // Kinds 0, which is none, to 12; counts of candidates, 0 to S; forms of a reply to filter; numbers of packets.
 pub const KINDS: usize = 13;
@@ -16,10 +19,9 @@ pub const HELD: usize = 2;
 
 pub const PACKETS: usize = 6;
 
-// A refusal's number or 0, and what is planned, all 0 where it is refused.
+// What is planned.
 #[derive(Clone, Copy)]
-pub struct PlanOutcome {
-    pub number: u8,
+pub struct LabPlan {
     pub kinds: [usize; KINDS], // bytes of a packet, by its kind; 0 for kinds 9 and 10
     pub filters: [usize; FILTERS], // bytes of kind 9, by its count of candidates; 0 above S
     pub held: [usize; HELD], // bytes of kind 10, by its byte
@@ -27,22 +29,23 @@ pub struct PlanOutcome {
     pub memory: usize, // bytes that the fields of a server's memory take
 }
 
-fn plan_refusal(t: usize, length: usize, readers: usize, stores: usize) -> u8
-    ensures { result ≡ plan_refusal_def t length readers stores }
+// What is asked for is in its ranges.
+fn accept(t: usize, length: usize, readers: usize, stores: usize) -> Result<(), Refusal>
+    ensures { number_told result ≡ plan_refusal_def t length readers stores }
 {
     if cluster::outside(1, cluster::TOP_FAULTS, t) {
-        return cluster::refusals::FAULTS;
+        return Err(Refusal::Faults);
     }
     if cluster::outside(1, cluster::TOP_CLIENT, readers) {
-        return cluster::refusals::CLIENT;
+        return Err(Refusal::Client);
     }
     if length > cluster::TOP_LENGTH {
-        return cluster::refusals::LENGTH;
+        return Err(Refusal::Length);
     }
     if cluster::CAPACITY < stores {
-        return cluster::refusals::STORES;
+        return Err(Refusal::Stores);
     }
-    0
+    Ok(())
 }
 
 fn kinds(t: u8, length: u32) -> [usize; KINDS]
@@ -84,11 +87,8 @@ fn filters(t: u8) -> [usize; FILTERS]
 {
     let mut out = [0usize; FILTERS];
     let candidate = wire::sizes::candidate_size(t);
-    let most = cluster::servers(t);
-    let mut count: usize = 0;
-    while count <= most {
+    for count in 0..=cluster::servers(t) {
         out[count] = wire::sizes::HEAD + (1 + count * candidate);
-        count += 1;
     }
     out
 }
@@ -121,28 +121,17 @@ fn memory(t: u8, length: u32, stores: usize) -> usize
 
 // What a shelf with at most t liars takes, for contents of so many bytes, so many clients that read together, and so many stores that a server
 // keeps.
-pub fn plan(t: usize, length: usize, readers: usize, stores: usize) -> PlanOutcome
-    ensures { result ≡ plan_step t length readers stores }
+pub fn plan(t: usize, length: usize, readers: usize, stores: usize) -> Result<LabPlan, Refusal>
+    ensures { plan_told result ≡ plan_step t length readers stores }
 {
-    let number = plan_refusal(t, length, readers, stores);
-    if number != 0 {
-        return PlanOutcome {
-            number,
-            kinds: [0usize; KINDS],
-            filters: [0usize; FILTERS],
-            held: [0usize; HELD],
-            packets: [0usize; PACKETS],
-            memory: 0,
-        };
-    }
+    accept(t, length, readers, stores)?;
     let faults = t as u8;
     let size = length as u32;
-    PlanOutcome {
-        number: 0,
+    Ok(LabPlan {
         kinds: kinds(faults, size),
         filters: filters(faults),
         held: held(faults, size),
         packets: packets(faults, readers),
         memory: memory(faults, size, stores),
-    }
+    })
 }
