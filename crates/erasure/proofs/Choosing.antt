@@ -8,11 +8,13 @@ use Prim.Native.Nat.{ℕ, zero, suc, ◌+◌, ◌<◌, ◌≤◌, suc-le-suc, ze
 use native.Mathlib.Nat.{zero-lt-suc, le_of_suc-le-suc, not-suc-le-zero}
 use native.Mathlib.Decide.{ℕ_discrete, dec_lt}
 use native.Mathlib.Omega.{arith}
-use borrow.Author.Tests.{eq-eqb, ne_eqb, ltb-true}
+use native.Mathlib.Numerals.{add-one}
+use borrow.Author.Tests.{eq-eqb, ne_eqb, lt-ltb, le-ltb, ltb-true}
 use lib.Arith.{lt_of_le-ne}
 use lib.Dec.{eqb, ltb}
-use lib.ListN.{length, get_or, length-append, get_or-append}
-use lib.Seq.{get_or-append_seam}
+use lib.ListN.{length, get_or, set, take, length-append, get_or-append}
+use lib.Seq.{get_or-append_seam, take-suc-set}
+use Rattle.std.specs.List.{list_any}
 use Rattle.erasure.specs.Choice.{among, picked, more, servers_at}
 
 pub among-found : (b : ℕ) (xs : List ℕ) (j : ℕ) → j < length xs → get_or xs j 0 ≡ b → among b xs ≡ true
@@ -26,6 +28,12 @@ unfolding among
 among_none b [] h = refl
 among_none b (x ∷ xs) h = ap (λ t. t || among b xs) (ne_eqb x b (h 0 (zero-lt-suc (length xs)))) ∙ among_none b xs (λ i l. h (suc i) (suc-le-suc l))
 
+-- the search that slices have is the same
+pub any-among : (b : ℕ) (xs : List ℕ) → list_any (λ y. eqb y b) xs ≡ among b xs
+unfolding among
+any-among b [] = refl
+any-among b (x ∷ xs) = ap (λ t. eqb x b || t) (any-among b xs)
+
 pub map_snoc : (g : ℕ → ℕ) (ps : List ℕ) (i : ℕ) → map g (ps ++ (i ∷ [])) ≡ map g ps ++ (g i ∷ [])
 map_snoc g [] i = refl
 map_snoc g (p ∷ ps) i = ap (λ (t : List ℕ). g p ∷ t) (map_snoc g ps i)
@@ -35,6 +43,28 @@ pub more-map : (g : ℕ → ℕ) (t s : Bool) (ps : List ℕ) (i : ℕ) → map 
 more-map g true true ps i = refl
 more-map g true false ps i = map_snoc g ps i
 more-map g false s ps i = refl
+
+-- a server joins an array of which the first n are chosen
+pub more_joins : (n k : ℕ) (held : Bool) (xs : List ℕ) (x : ℕ) → n < k → held ≡ false → n < length xs
+    → take (n + 1) (set xs n x) ≡ more (ltb n k) held (take n xs) x
+more_joins n k held xs x room new h = rw (lt-ltb n k room, new) (rw add-one (take-suc-set xs n x h))
+
+pub more_full : (n k : ℕ) (held : Bool) (xs : List ℕ) (x : ℕ) → k ≤ n → more (ltb n k) held xs x ≡ xs
+more_full n k held xs x h = rw (le-ltb n k h) refl
+
+pub more_held : (room held : Bool) (xs : List ℕ) (x : ℕ) → held ≡ true → more room held xs x ≡ xs
+more_held true held xs x e = rw e refl
+more_held false held xs x e = refl
+
+-- one server more of the list is looked at, from what is chosen of those before it
+pub picked_more : (k : ℕ) (ss : List ℕ) (i n : ℕ) (at servers at' servers' : List ℕ) → take n at ≡ picked k ss i
+    → take n servers ≡ servers_at ss (picked k ss i) → length (picked k ss i) ≡ n
+    → at' ≡ more (ltb n k) (among (get_or ss i 0) (take n servers)) (take n at) i
+    → servers' ≡ more (ltb n k) (among (get_or ss i 0) (take n servers)) (take n servers) (get_or ss i 0)
+    → (at' ≡ picked k ss (i + 1)) × (servers' ≡ servers_at ss (picked k ss (i + 1)))
+unfolding picked
+picked_more k ss i n at servers at' servers' p s l p' s' =
+    rw (add-one i, l) (p' ∙ rw (s, p) refl, s' ∙ rw s (sym (more-map (λ q. get_or ss q 0) _ _ (picked k ss i) i)))
 
 -- ---- all different
 
