@@ -8,7 +8,9 @@ use native.Mathlib.Nat.{zero-lt-suc, zero-add, le_of_suc-le-suc, not-suc-le-zero
 use native.Mathlib.Decide.{dec_lt}
 use native.Mathlib.Omega.{arith}
 use lib.ListN.{length, get_or, set, take, drop, length-append, length-drop, length-set, get_or-append}
-use lib.Seq.{ext_get_or, length-take-le, get_or-take, get_or-drop, get_or-append-add, get_or-set_same, get_or-set_other}
+use lib.Seq.{ext_get_or, length-take-le, get_or-take, get_or-drop, get_or-append-add, get_or-append_right, get_or-set_same, get_or-set_other}
+use borrow.Rule.Slice.PartMut.{put_mid}
+use Rattle.std.proofs.lemmas.Grind.{common_steps, elements, moves, pieces}
 use Rattle.gf256.proofs.Byte.{Small}
 use Rattle.gf256.proofs.Apart.{Apart, Distinct, apart_at}
 use Rattle.erasure.specs.Fragments.{table}
@@ -144,3 +146,33 @@ written_first old new n g h w =
 -- the same bytes, told otherwise
 pub written_as : (old new : List ℕ) (at m : ℕ) (g h : ℕ → ℕ) → ((i : ℕ) → i < m → g i ≡ h i) → RunWritten old new at m g → RunWritten old new at m h
 written_as old new at m g h e w = record { long = w.long; here = λ i l. w.here i l ∙ e i l; below = w.below; above = w.above }
+
+-- and with ys put there, as a copy to a part puts them
+pub put_written : (old ys : List ℕ) (at m k : ℕ) (g : ℕ → ℕ) → length ys ≡ m → k ≡ m → at + m ≤ length old
+    → ((i : ℕ) → i < m → get_or ys i 0 ≡ g i) → RunWritten old (put_mid at k old ys) at m g
+put_written old ys at m k g long same fits are = record {
+  long = grind (arith, common_steps, elements, moves, pieces);
+  here = λ i h.
+      past (at + i) i (omega arith) ∙ get_or-append ys rest 0 i (omega arith) ∙ are i h;
+  below = λ i h. get_or-append (take at old) (ys ++ rest) 0 i (omega (arith, lead)) ∙ get_or-take at old i 0 h;
+  above = λ i h.
+      past i (i - at) (omega arith) ∙ get_or-append_right ys rest (i - at) 0 (omega arith) ∙ get_or-drop k (drop at old) (i - at - length ys) 0
+      ∙ get_or-drop at old (k + (i - at - length ys)) 0 ∙ ap (λ (x : ℕ). get_or old x 0) (omega arith);
+}
+  where
+    rest : List ℕ
+    rest = drop k (drop at old)
+
+    lead : length (take at old) ≡ at
+    lead = length-take-le at old (omega arith)
+
+    past : (i j : ℕ) → at + j ≡ i → get_or (take at old ++ (ys ++ rest)) i 0 ≡ get_or (ys ++ rest) j 0
+    past i j e = get_or-append_right (take at old) (ys ++ rest) i 0 (omega (arith, lead)) ∙ ap (λ (x : ℕ). get_or (ys ++ rest) x 0) (omega (arith, lead))
+
+-- and with a part of src put there
+pub put_copied : (old src ys : List ℕ) (at from m k n : ℕ) → ys ≡ take n (drop from src) → n ≡ m → k ≡ m → from + m ≤ length src → at + m ≤ length old
+    → RunWritten old (put_mid at k old ys) at m (λ i. get_or src (from + i) 0)
+put_copied old src ys at from m k n part same same' there fits =
+    put_written old ys at m k (λ i. get_or src (from + i) 0)
+    (ap length part ∙ length-take-le n (drop from src) (omega (arith, length-drop {A = ℕ} from src)) ∙ same) same' fits
+    (λ i h. ap (λ (l : List ℕ). get_or l i 0) part ∙ get_or-take n (drop from src) i 0 (omega arith) ∙ get_or-drop from src i 0)

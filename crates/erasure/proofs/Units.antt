@@ -3,17 +3,21 @@
 -- definition names. Nothing is assumed.
 use mathlib.Core.Path.{◌≡◌, refl, sym, ap, ap₂, ◌∙◌}
 use mathlib.Core.Logic.{◌≢◌}
-use mathlib.Core.Bool.{Bool, true, false, cond}
+use mathlib.Core.Bool.{Bool, true, false, cond, true≢false}
+use Rattle.std.proofs.Common.{◌-◌, not, position, Option, Some, None}
+use Rattle.std.proofs.lemmas.List.Quantifiers.{position-Some}
+use Rattle.std.proofs.lemmas.List.Folds.{list_all_at}
+use Rattle.std.specs.List.{list_all}
 use mathlib.Core.List.{List}
 use Prim.Native.Nat.{ℕ, zero, suc, ◌+◌, ◌<◌, ◌≤◌}
 use native.Mathlib.Nat.{not-suc-le-zero, le_refl, le-suc, le_trans, zero-lt-suc}
 use native.Mathlib.Decide.{ℕ_discrete, dec_lt}
 use native.Mathlib.Omega.{arith}
-use borrow.Author.Tests.{eq-eqb, ne_eqb, lt-ltb, le-ltb}
+use borrow.Author.Tests.{eq-eqb, ne_eqb}
 use lib.Bits.{bit_xor, xor_zero_r, xor_zero_l}
 use lib.Dec.{eqb}
-use lib.ListN.{length, get_or, take}
-use lib.Seq.{length-take-le}
+use lib.ListN.{length, get_or, set, take, drop, length-drop, replicate, get_or-replicate}
+use lib.Seq.{get_or-take, get_or-drop, length-take-le, get_or-set_same, get_or-set_other}
 use Rattle.gf256.specs.Gf.{times, power}
 use Rattle.gf256.specs.Poly.{through}
 use Rattle.gf256.specs.Bytes.{bytes}
@@ -59,41 +63,45 @@ copies k w src starts q r h one zeros small =
     (λ j hj ne. ap (times (byte_at src starts q j)) (zeros j hj ne) ∙ times-zero_r (byte_at src starts q j))
     ∙ ap (times b) one ∙ times-comm b 1 (small (get_or starts r 0 + q)) one-small ∙ one-times b (small (get_or starts r 0 + q))
 
--- zeros behind place p, one more
-pub zero_more : (row : List ℕ) (p j : ℕ) → ((i : ℕ) → p < i → i < j → get_or row i 0 ≡ 0) → get_or row j 0 ≡ 0 → (i : ℕ) → p < i → i < j + 1
-    → get_or row i 0 ≡ 0
-zero_more row p j zeros here i a b = go (ℕ_discrete i j)
+-- the first weight that is not 0, and behind it only zeros
+pub beside : (row : List ℕ) (k p : ℕ) → k ≤ length row → position (λ w. not (eqb w 0)) (take k row) ≡ Some p
+    → list_all (λ w. eqb w 0) (take (k - (p + 1)) (drop (p + 1) row)) ≡ true
+    → (p < k) × ((j : ℕ) → j < k → j ≢ p → get_or row j 0 ≡ 0)
+beside row k p long first rest = (omega (arith, at.0, lead), λ j h ne. go j h ne (dec_lt j p) (ℕ_discrete (get_or row j 0) 0))
   where
-    go : Dec (i ≡ j) → get_or row i 0 ≡ 0
-    go (yes e) = ap (λ (x : ℕ). get_or row x 0) e ∙ here
-    go (no ne) = zeros i a (omega (arith, b, ne))
+    lead : length (take k row) ≡ k
+    lead = length-take-le k row long
 
--- zeros before and behind it
-pub zero_beside : (row : List ℕ) (p k : ℕ) → ((i : ℕ) → i < p → get_or row i 0 ≡ 0) → ((i : ℕ) → p < i → i < k → get_or row i 0 ≡ 0) → (j : ℕ) → j < k
-    → j ≢ p → get_or row j 0 ≡ 0
-zero_beside row p k before behind j h ne = go (dec_lt j p)
-  where
-    go : Dec (j < p) → get_or row j 0 ≡ 0
-    go (yes b) = before j b
-    go (no nb) = behind j (omega (arith, nb, ne)) h
+    at : (p < length (take k row)) × (not (eqb (get_or (take k row) p 0) 0) ≡ true) × ((j : ℕ) → j < p → not (eqb (get_or (take k row) j 0) 0) ≡ false)
+    at = position-Some (λ w. not (eqb w 0)) (take k row) p 0 first
+
+    go : (j : ℕ) → j < k → j ≢ p → Dec (j < p) → Dec (get_or row j 0 ≡ 0) → get_or row j 0 ≡ 0
+    go j h ne b (yes e) = e
+    go j h ne (yes b) (no x) =
+        absurd (true≢false (sym (ap not (ap (λ (w : ℕ). eqb w 0) (get_or-take k row j 0 h) ∙ ne_eqb (get_or row j 0) 0 x)) ∙ at.2 j b))
+    go j h ne (no nb) (no x) =
+        let i : ℕ = j - (p + 1) in
+        let behind : List ℕ = drop (p + 1) row in
+        let e : get_or (take (k - (p + 1)) behind) i 0 ≡ get_or row j 0 =
+        get_or-take (k - (p + 1)) behind i 0 (omega arith) ∙ get_or-drop (p + 1) row i 0 ∙ ap (λ (x : ℕ). get_or row x 0) (omega arith) in
+        absurd
+        (true≢false
+        (sym rest
+        ∙ list_all_at (λ w. eqb w 0) (take (k - (p + 1)) behind) i 0
+        (omega (arith, length-take-le (k - (p + 1)) behind (omega (arith, length-drop {A = ℕ} (p + 1) row))))
+        (ap (λ (w : ℕ). eqb w 0) e ∙ ne_eqb (get_or row j 0) 0 x)))
 
 -- ---- a row, as it is made
 
-module _ (k : ℕ) (a : List (List ℕ)) (place z j : ℕ) where
-  -- all or nothing
-  pub row_copied : (row : List ℕ) → k ≤ width → place < k → get_or row place 0 ≡ 1 → ((c : ℕ) → c < width → c ≢ place → get_or row c 0 ≡ 0) → j < k
-      → get_or row j 0 ≡ weight_in k a place z j
-  unfolding weight_in
-  row_copied row kw b one zeros h =
-      go (ℕ_discrete j place) ∙ sym (ap (λ (c : Bool). cond c (cond (eqb place j) 1 0) (weight_at k a z j)) (lt-ltb place k b))
-    where
-      go : Dec (j ≡ place) → get_or row j 0 ≡ cond (eqb place j) 1 0
-      go (yes e) = ap (λ (x : ℕ). get_or row x 0) e ∙ one ∙ sym (ap (λ (c : Bool). cond c 1 0) (eq-eqb place j (sym e)))
-      go (no ne) = zeros j (omega (arith, h, kw)) ne ∙ sym (ap (λ (c : Bool). cond c 1 0) (ne_eqb place j (λ e. ne (sym e))))
-
-  pub row_weighed : k ≤ place → weight_in k a place z j ≡ weight_at k a z j
-  unfolding weight_in
-  row_weighed past = ap (λ (c : Bool). cond c (cond (eqb place j) 1 0) (weight_at k a z j)) (le-ltb place k past)
+-- all or nothing
+pub row_copied : (k : ℕ) (a : List (List ℕ)) (place z j : ℕ) → place < width → j < width
+    → get_or (set (replicate {A = ℕ} width 0) place 1) j 0 ≡ weight_in k a (Some place) z j
+unfolding weight_in
+row_copied k a place z j b h = go (ℕ_discrete place j)
+  where
+    go : Dec (place ≡ j) → get_or (set (replicate {A = ℕ} width 0) place 1) j 0 ≡ cond (eqb place j) 1 0
+    go (yes e) = rw (← e, eq-eqb place place refl) (get_or-set_same (replicate width 0) place 1 0 b)
+    go (no ne) = rw (ne_eqb place j ne) (get_or-set_other (replicate width 0) place j 1 0 (λ e. ne (sym e)) ∙ get_or-replicate width j 0 0 h)
 
 -- ---- weights are known by one value
 
@@ -123,17 +131,14 @@ module _ (k : ℕ) (xs : List ℕ) (kx : k ≤ length xs) (small : (i : ℕ) →
       ∙ direct k xs small kx d z hz y sy
 
   -- and they are what the code makes
-  pub row_is : (a : List (List ℕ)) (place : ℕ) → (place < k → get_or xs place 0 ≡ z) → (k ≤ place → Solves k xs a) → Dec (place < k)
-      → (j : ℕ) → j < k → weight_in k a place z j ≡ weight_of (take k xs) z j
+  pub row_is : (a : List (List ℕ)) (place : Option ℕ) → ((p : ℕ) → place ≡ Some p → (p < k) × (get_or xs p 0 ≡ z))
+      → (place ≡ None → Solves k xs a) → (j : ℕ) → j < k → weight_in k a place z j ≡ weight_of (take k xs) z j
   unfolding weight_in weight_of weight_at
-  row_is a place stands solved (yes b) j h =
-      ap (λ (c : Bool). cond c (cond (eqb place j) 1 0) (weight_at k a z j)) (lt-ltb place k b)
-      ∙ sym (value_at k xs (unit j) kx (λ i _. small i) (λ i. unit-lt (eqb i j)) d place b)
-      ∙ ap₂ (λ (n v : ℕ). through bytes (take k xs) (unit_at n j) v) (sym (length-take-le k xs kx)) (stands b)
-  row_is a place stands solved (no nb) j h =
-      let past : k ≤ place = omega arith in
-      row_weighed k a place z j past
-      ∙ sym (known k xs (weight_at k a z) z j (solved past z hz) kx h (weight-lt j))
+  row_is a (Some p) stands solved j h =
+      let at = stands p refl in
+      sym (value_at k xs (unit j) kx (λ i _. small i) (λ i. unit-lt (eqb i j)) d p at.0)
+      ∙ ap₂ (λ (n v : ℕ). through bytes (take k xs) (unit_at n j) v) (sym (length-take-le k xs kx)) at.1
+  row_is a None stands solved j h = sym (known k xs (weight_at k a z) z j (solved refl z hz) kx h (weight-lt j))
     where
       weight-lt : (j : ℕ) → weight_at k a z j < 256
       weight-lt j = sum_to-lt k (λ c. times (power z c) (entry a c j)) (λ c _. times-lt (power z c) (entry a c j) (power-lt z c hz))

@@ -2,7 +2,7 @@
 ghost use Rattle.std.specs.Prelude.{◌≡◌, ℕ, ◌<◌, ◌≤◌, get_or, length};
 ghost use Rattle.erasure.specs.System.{width, factor_at, direct_at};
 
-const WIDTH: usize = crate::system::WIDTH;
+use crate::system::WIDTH;
 
 // z less point m, but 1 at j.
 fn factor(points: &[u8], j: usize, z: u8, m: usize) -> u8
@@ -20,11 +20,9 @@ fn weight(points: &[u8], k: usize, j: usize, z: u8) -> u8
     let x = points[j];
     let mut top = 1u8;
     let mut own = 1u8;
-    let mut m: usize = 0;
-    while m < k {
+    for m in 0..k {
         top = gf256::mul(top, factor(points, j, z, m));
         own = gf256::mul(own, factor(points, j, x, m));
-        m += 1;
     }
     gf256::mul(top, gf256::inverse(own))
 }
@@ -35,10 +33,8 @@ pub(crate) fn weights(points: &[u8], k: usize, z: u8) -> [u8; WIDTH]
     ensures { (j : ℕ) → j < k → get_or result j 0 ≡ direct_at k points.now z j }
 {
     let mut out = [0u8; WIDTH];
-    let mut j: usize = 0;
-    while j < k {
+    for j in 0..k {
         out[j] = weight(points, k, j, z);
-        j += 1;
     }
     out
 }

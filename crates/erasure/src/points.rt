@@ -5,7 +5,7 @@ ghost use Rattle.cluster.specs.Config.{up_to, point_of};
 ghost use Rattle.cluster.specs.Ranges.{most_servers};
 ghost use Rattle.erasure.specs.System.{width};
 
-const WIDTH: usize = crate::system::WIDTH;
+use crate::system::WIDTH;
 
 const MOST: usize = cluster::MOST_SERVERS;
 
@@ -13,15 +13,7 @@ const MOST: usize = cluster::MOST_SERVERS;
 pub(crate) fn numbered() -> [u8; MOST]
     ensures { result ≡ up_to most_servers }
 {
-    let mut out = [0u8; MOST];
-    let mut z = 1u8;
-    let mut j: usize = 0;
-    while j < MOST {
-        out[j] = z;
-        z += 1;
-        j += 1;
-    }
-    out
+    std::array::from_fn(|j| j as u8 + 1)
 }
 
 // The points of the first k servers.
@@ -30,11 +22,8 @@ pub(crate) fn points_of(servers: [u8; WIDTH], k: usize, points: &[u8]) -> [u8; W
     ensures { (j : ℕ) → j < k → get_or result j 0 ≡ point_of points.now (get_or servers j 0) }
 {
     let mut out = [0u8; WIDTH];
-    let mut j: usize = 0;
-    while j < k {
-        let i = servers[j] as usize;
-        out[j] = points[i - 1];
-        j += 1;
+    for j in 0..k {
+        out[j] = points[usize::from(servers[j]) - 1];
     }
     out
 }

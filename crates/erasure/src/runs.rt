@@ -117,14 +117,13 @@ fn run(row: [u8; WIDTH], runs: Runs, fragments: &[u8], out: &mut [u8], at: usize
     ensures { RunWritten out.old out.new at m
         (sum_at runs.count (λ j. get_or row j 0) fragments.now runs.starts) }
 {
-    let k = runs.count;
-    let j = crate::weighing::unit_of(row, k);
-    if j < k {
-        let starts = runs.starts;
-        crate::lanes::copy(fragments, starts[j], out, at, m);
-        return;
+    match crate::weighing::unit_of(row, runs.count) {
+        Some(j) => {
+            let from = runs.starts[j];
+            out[at..at + m].copy_from_slice(&fragments[from..from + m]);
+        }
+        None => crate::lanes::combine(row, runs, fragments, out, at, m),
     }
-    crate::lanes::combine(row, runs, fragments, out, at, m);
 }
 
 // The content of n bytes, run after run, each weighed by its row.

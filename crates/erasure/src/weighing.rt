@@ -1,29 +1,28 @@
 // The weights of the plain runs, a row for each, one row after the other.
-ghost use Rattle.std.specs.Prelude.{◌≡◌, ◌≢◌, ◌++◌, map, ℕ, ◌+◌, ◌-◌, ◌*◌, ◌<◌, ◌≤◌, get_or, length, take, replicate};
+ghost use Rattle.std.specs.Prelude.{◌≡◌, ◌≢◌, ◌==◌, not, ◌++◌, map, ℕ, ◌+◌, ◌-◌, ◌*◌, ◌<◌, ◌≤◌, IfSome, get_or, length, take, replicate, position};
+ghost use Rattle.std.specs.List.{list_all};
 ghost use Rattle.cluster.specs.Config.{point_of, PointTable};
 ghost use Rattle.erasure.specs.System.{width, AllDifferent};
 ghost use Rattle.erasure.specs.Standing.{weight_in};
 ghost use Rattle.erasure.specs.Weights.{weight_rows, rows_room};
 
+use crate::ROWS;
 use crate::choice::Chosen;
-
-const WIDTH: usize = crate::system::WIDTH;
-
-const SYSTEM_ROW: usize = crate::system::SYSTEM_ROW;
-
-const ROWS: usize = crate::ROWS;
+use crate::system::{SYSTEM_ROW, WIDTH};
 
 // The weights at z: where z is one of the points given, only the value there counts; otherwise the solved system tells them.
-fn row_of(a: [[u8; SYSTEM_ROW]; WIDTH], k: usize, place: usize, z: u8) -> [u8; WIDTH]
-    requires { (1 ≤ k) × (k ≤ width) }
+fn row_of(a: [[u8; SYSTEM_ROW]; WIDTH], k: usize, place: Option<usize>, z: u8) -> [u8; WIDTH]
+    requires { (1 ≤ k) × (k ≤ width) × IfSome place (λ p. p < k) }
     ensures { (j : ℕ) → j < k → get_or result j 0 ≡ weight_in k a place z j }
 {
-    if place < k {
-        let mut out = [0u8; WIDTH];
-        out[place] = 1;
-        return out;
+    match place {
+        Some(p) => {
+            let mut out = [0u8; WIDTH];
+            out[p] = 1;
+            out
+        }
+        None => crate::system::weights(a, k, z),
     }
-    crate::system::weights(a, k, z)
 }
 
 // The rows of the plain runs, whose points are the first k of all, from the values at the first k points given. Padded with 00h.
@@ -34,11 +33,9 @@ fn made(points: &[u8], given: [u8; WIDTH], k: usize) -> [u8; ROWS]
     let places = crate::given::places_of(given, k, points);
     let a = crate::given::system_of(given, places, k);
     let mut out = [0u8; ROWS];
-    let mut i: usize = 0;
-    while i < k {
+    for i in 0..k {
         let row = row_of(a, k, places[i], points[i]);
-        crate::lanes::copy(&row, 0, &mut out, i * k, k);
-        i += 1;
+        out[i * k..i * k + k].copy_from_slice(&row[..k]);
     }
     out
 }
@@ -51,10 +48,11 @@ pub(crate) fn of_chosen(points: &[u8], c: Chosen) -> [u8; ROWS]
     ensures { result ≡ weight_rows points.now c.count (map (point_of points.now) (take c.count c.servers))
         ++ replicate (rows_room - c.count * c.count) 0 }
 {
-    let servers = c.servers;
-    let k = c.count;
-    let given = crate::points::points_of(servers, k, points);
-    made(points, given, k)
+    made(
+        points,
+        crate::points::points_of(c.servers, c.count, points),
+        c.count,
+    )
 }
 
 // Row i.
@@ -63,43 +61,34 @@ pub(crate) fn row_at(rows: [u8; ROWS], k: usize, i: usize) -> [u8; WIDTH]
     ensures { (j : ℕ) → j < k → get_or result j 0 ≡ get_or rows (i * k + j) 0 }
 {
     let mut out = [0u8; WIDTH];
-    crate::lanes::copy(&rows, i * k, &mut out, 0, k);
+    out[..k].copy_from_slice(&rows[i * k..i * k + k]);
     out
 }
 
-// The place of the first weight that is not 0, or k where there is none.
-fn first_weight(row: [u8; WIDTH], k: usize) -> usize
+// The place of the first weight that is not 0.
+fn first_weight(row: [u8; WIDTH], k: usize) -> Option<usize>
     requires { k ≤ width }
-    ensures { (result ≤ k) × ((j : ℕ) → j < result → get_or row j 0 ≡ 0) }
+    ensures { result ≡ position (λ w. not (w == 0)) (take k row) }
 {
-    let mut j: usize = 0;
-    while j < k {
-        if row[j] != 0 {
-            return j;
-        }
-        j += 1;
-    }
-    k
+    row[..k].iter().position(|w| *w != 0)
 }
 
-// Where the 1 stands of a row that copies: all its other weights are 0. For every other row k.
-pub(crate) fn unit_of(row: [u8; WIDTH], k: usize) -> usize
-    requires { k ≤ width }
-    ensures { result < k → (get_or row result 0 ≡ 1) × ((j : ℕ) → j < k → j ≢ result → get_or row j 0 ≡ 0) }
+// Whether all weights are 0.
+fn blank(row: &[u8]) -> bool
+    ensures { result ≡ list_all (λ w. w == 0) row.now }
 {
-    let p = first_weight(row, k);
-    if k <= p {
-        return k;
+    row.iter().all(|w| *w == 0)
+}
+
+// Where the 1 stands of a row that copies: all its other weights are 0.
+pub(crate) fn unit_of(row: [u8; WIDTH], k: usize) -> Option<usize>
+    requires { k ≤ width }
+    ensures { IfSome result (λ p. (p < k) × (get_or row p 0 ≡ 1) × ((j : ℕ) → j < k → j ≢ p → get_or row j 0 ≡ 0)) }
+{
+    let p = first_weight(row, k)?;
+    if row[p] == 1 && blank(&row[p + 1..k]) {
+        Some(p)
+    } else {
+        None
     }
-    if row[p] != 1 {
-        return k;
-    }
-    let mut j: usize = p + 1;
-    while j < k {
-        if row[j] != 0 {
-            return k;
-        }
-        j += 1;
-    }
-    p
 }
