@@ -14,7 +14,7 @@ use Rattle.cluster.proofs.Legal.{up_to-length, up_to_at, legal-shelf}
 use Rattle.cluster.specs.Ranges.{top_faults, top_length, most_servers}
 use Rattle.cluster.specs.Refusals.{on_refusal}
 use Rattle.cluster.proofs.Tests.{refused_is}
-use Rattle.erasure.specs.declared.FragmentOutcome.{FragmentOutcome}
+use Rattle.erasure.specs.Steps.{FragmentOutcome}
 use Rattle.erasure.specs.Fragments.{table, fragment_size_def, across, fragment}
 use Rattle.erasure.specs.Steps.{fragment_room, fragment_refusal_def, fragment_bytes, fragment_step}
 use Rattle.erasure.specs.Lanes.{byte_at, value_from, plain_of}
@@ -31,17 +31,16 @@ first-points s k h =
 -- of the table of the most servers the first s are lent: they are there, and are the shelf's table
 pub record Lent (t s : ℕ) (all : List ℕ) : Type 0 where
   pub enough : s ≤ length all
-  pub points : take (s - 0) all ≡ (shelf t).points
-  pub long : length (take (s - 0) all) ≡ (shelf t).servers
-  pub apart : PointTable (take (s - 0) all)
+  pub points : take s all ≡ (shelf t).points
+  pub long : length (take s all) ≡ (shelf t).servers
+  pub apart : PointTable (take s all)
 
 pub lent : (t s : ℕ) (all : List ℕ) → (1 ≤ t) × (t ≤ top_faults) → s ≡ (shelf t).servers → all ≡ up_to most_servers → Lent t s all
 unfolding shelf
 lent t s all h many are =
     let legal : Legal (shelf t) = legal-shelf t h.0 h.1 in
-    let e : s - 0 ≡ 3 * t + 1 = omega (arith, many) in
-    let points : take (s - 0) all ≡ (shelf t).points =
-    ap₂ (λ (n : ℕ) (l : List ℕ). take n l) e are ∙ first-points most_servers (3 * t + 1) (omega (arith, h.1)) in
+    let points : take s all ≡ (shelf t).points =
+    ap₂ (λ (n : ℕ) (l : List ℕ). take n l) many are ∙ first-points most_servers (3 * t + 1) (omega (arith, h.1)) in
     record {
       enough = omega (arith, many, legal.few, ap length are, up_to-length most_servers);
       points = points;

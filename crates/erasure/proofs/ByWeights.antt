@@ -20,7 +20,7 @@ use Rattle.cluster.specs.Ranges.{within, top_length, top_faults, content_room}
 use Rattle.cluster.specs.declared.Outcome.{Outcome}
 use Rattle.cluster.proofs.Legal.{legal-shelf}
 use Rattle.cluster.proofs.Tests.{within_in}
-use Rattle.erasure.specs.declared.WeightsOutcome.{WeightsOutcome}
+use Rattle.erasure.specs.Weights.{WeightsOutcome}
 use Rattle.erasure.specs.Fragments.{table, fragment_size_def, Part, restored}
 use Rattle.erasure.specs.Choice.{servers_at, first_different, parts_at}
 use Rattle.erasure.specs.Steps.{each, argument_checks, restore_refusal_def, restored_bytes, restore_step}

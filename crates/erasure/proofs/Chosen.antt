@@ -29,6 +29,8 @@ use Rattle.erasure.proofs.Lists.{get_or-table, get_d_map, table_is}
 use Rattle.erasure.proofs.Laws.{size_pos, take-map}
 use Rattle.erasure.proofs.Placed.{table_ext}
 use Rattle.erasure.proofs.Choosing.{chosen-different, chosen-lt}
+use Rattle.cluster.specs.Ranges.{top_faults}
+use Rattle.erasure.proofs.Answers.{Lent}
 use Rattle.erasure.proofs.Refused.{first_of_first, first_of_second}
 
 -- ---- the answer by its refusal
@@ -198,6 +200,52 @@ module _ (k : ℕ) (servers : List ℕ) (c : Chosen) (h : Holds k servers (first
           (ap (map (λ p. get_or p.bytes q 0)) parts_at_lem ∙ byte_at_lem q inside)
           ∙ ap (λ (i : ℕ). through bytes (take k (map (point_of points) c.servers))
           (table k (byte_at fragments (map (λ p. p * f) c.at) q)) (get_or points i 0)) (sym run)))
+
+-- ---- the shelf's k
+
+pub threshold-is : (t k : ℕ) → k ≡ (shelf t).threshold → k ≡ t + 1
+unfolding shelf
+threshold-is t k e = e
+
+-- fewer than k are chosen, or enough
+pub few_are : (t k count : ℕ) (servers : List ℕ) → k ≡ (shelf t).threshold → length (first_different k servers) ≡ count → count < k
+    → length (first_different (shelf t).threshold servers) < (shelf t).threshold
+few_are t k count servers e counts h = subst (λ (x : ℕ). length (first_different x servers) < x) e (omega (arith, counts))
+
+pub enough_are : (t k count : ℕ) (servers : List ℕ) → k ≡ (shelf t).threshold → length (first_different k servers) ≡ count → k ≤ count
+    → (shelf t).threshold ≤ length (first_different (shelf t).threshold servers)
+enough_are t k count servers e counts h = subst (λ (x : ℕ). x ≤ length (first_different x servers)) e (omega (arith, counts))
+
+-- ---- k servers that are chosen, with the table of the shelf
+
+pub record Ready (k : ℕ) (points : List ℕ) (c : Chosen) : Type 0 where
+  pub all : c.count ≡ k
+  pub some : 1 ≤ c.count
+  pub most : c.count ≤ width
+  pub there : c.count ≤ length points
+  pub table : PointTable points
+  pub apart : AllDifferent c.count c.servers
+  pub numbers : (j : ℕ) → j < c.count → (1 ≤ get_or c.servers j 0) × (get_or c.servers j 0 ≤ length points)
+
+pub ready : (t k s : ℕ) (servers points : List ℕ) (c : Chosen) → (1 ≤ t) × (t ≤ top_faults)
+    → ((i : ℕ) → i < length servers → (1 ≤ get_or servers i 0) × (get_or servers i 0 ≤ (shelf t).servers)) → k ≡ (shelf t).threshold
+    → Holds k servers (first_different k servers) c → length c.at ≡ width → length c.servers ≡ width → k ≤ c.count → Lent t s points
+    → Ready k (take s points) c
+unfolding shelf
+ready t k s servers points c faults numbers is h la ls full lent =
+    let kw : k ≤ width = omega (arith, is, faults.1) in
+    let all : c.count ≡ k = omega (arith, h.room, full) in
+    record {
+      all = all;
+      some = omega (arith, all, is);
+      most = omega (arith, all, kw);
+      there = omega (arith, all, is, lent.long);
+      table = lent.apart;
+      apart = λ i j hi hj. differ k servers c h kw la ls full i j (omega (arith, all, hi)) (omega (arith, all, hj));
+      numbers = λ j b.
+          let r = number_in k servers c h kw la ls full (shelf t).servers numbers j (omega (arith, all, b)) in
+          (r.0, omega (arith, r.1, lent.long));
+    }
 
 -- the points of different servers are different
 pub points-differ : (k : ℕ) (points servers given : List ℕ) → PointTable points → AllDifferent k servers

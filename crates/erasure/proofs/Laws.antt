@@ -9,6 +9,8 @@ use native.Mathlib.Numerals.{add-one}
 use native.Mathlib.Omega.{arith}
 use lib.ListN.{length, get_or, take, length-map}
 use lib.Seq.{ext_get_or, length-take-le, get_or-take}
+use Rattle.std.specs.Int.{div_ceil}
+use Rattle.std.proofs.lemmas.Grind.{div_ceil_times}
 use Rattle.gf256.specs.Poly.{eval, through}
 use Rattle.gf256.specs.Bytes.{bytes}
 use Rattle.gf256.proofs.Apart.{Distinct}
@@ -18,6 +20,15 @@ use Rattle.erasure.specs.Fragments.{table, fragment_size_def, across, fragment, 
 use Rattle.erasure.proofs.Lists.{length-table, get_or-table, get_d_map, small_of, distinct_of, distinct_at}
 
 -- ---- the runs cover the content: a place m below n stands in one of the k runs
+
+-- n / k rounded up, in two ways
+pub ceiled : (k n : ℕ) → 1 ≤ k → div_ceil n k ≡ (n + k - 1) / k
+ceiled k n h =
+    let q : ℕ = div_ceil n k in
+    let b = div_ceil_times n k h in
+    let lo : q ≤ (n + k - 1) / k = (le-div_iff_mul-le h).1 (omega (arith, b.1)) in
+    let hi : (n + k - 1) / k < q + 1 = (div-lt_iff_lt-mul h).1 (omega (arith, b.0)) in
+    omega (arith, lo, hi)
 
 pub size_pos : (k n : ℕ) → 0 < n → 0 < k → 0 < fragment_size_def k n
 unfolding fragment_size_def

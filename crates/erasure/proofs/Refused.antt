@@ -10,12 +10,36 @@ use native.Mathlib.Decide.{ℕ_discrete}
 use lib.Dec.{eqb, ltb}
 use lib.ListN.{length, get_or}
 use borrow.Author.Tests.{eq-eqb, ne_eqb, ltb-false, eqb-true, not-false}
+use Rattle.std.proofs.Common.{◌||◌}
+use Rattle.std.specs.List.{list_any}
 use Rattle.cluster.specs.Config.{shelf}
 use Rattle.cluster.specs.Ranges.{within, top_length, top_faults, content_room}
-use Rattle.cluster.specs.Refusals.{Check, first_of}
+use Rattle.cluster.specs.Refusals.{Check, first_of, refusal_number}
+use Rattle.cluster.specs.declared.Refusal.{Refusal}
+use Rattle.cluster.specs.declared.Refusal.TheVariants.{MemorySize, Memory, Faults, Server, Client, Length, Layout, Addressee, Sender, Reply, Hand, Numbers, Room, Fragments, Line, Stores, WrongSize}
 use Rattle.cluster.proofs.Tests.{and_both, within_bounds}
 use Rattle.erasure.specs.Fragments.{fragment_size_def}
 use Rattle.erasure.specs.Steps.{each, fragment_refusal_def, argument_checks}
+
+-- a refusal has a number, which is not 0
+pub refused-number : (why : Refusal) → refusal_number why ≢ 0
+refused-number MemorySize = suc-ne-zero 0
+refused-number Memory = suc-ne-zero 1
+refused-number Faults = suc-ne-zero 2
+refused-number Server = suc-ne-zero 3
+refused-number Client = suc-ne-zero 4
+refused-number Length = suc-ne-zero 5
+refused-number Layout = suc-ne-zero 6
+refused-number Addressee = suc-ne-zero 7
+refused-number Sender = suc-ne-zero 8
+refused-number Reply = suc-ne-zero 11
+refused-number Hand = suc-ne-zero 12
+refused-number Numbers = suc-ne-zero 13
+refused-number Room = suc-ne-zero 14
+refused-number Fragments = suc-ne-zero 15
+refused-number Line = suc-ne-zero 16
+refused-number Stores = suc-ne-zero 17
+refused-number WrongSize = suc-ne-zero 254
 
 -- ---- ranges and counts
 
@@ -39,6 +63,16 @@ unfolding each
 each_at f [] e i h = absurd (not-suc-le-zero h)
 each_at f (x ∷ xs) e zero h = (and_both (f x) (each f xs) e).0
 each_at f (x ∷ xs) e (suc i) h = each_at f xs (and_both (f x) (each f xs) e).1 i (le_of_suc-le-suc h)
+
+-- some fail, or each passes
+pub any_each : (f : ℕ → Bool) (xs : List ℕ) → list_any (λ x. not (f x)) xs ≡ not (each f xs)
+unfolding each
+any_each f [] = refl
+any_each f (x ∷ xs) = go (f x) (any_each f xs)
+  where
+    go : (b : Bool) → list_any (λ y. not (f y)) xs ≡ not (each f xs) → (not b || list_any (λ y. not (f y)) xs) ≡ not (b && each f xs)
+    go true rest = rest
+    go false rest = refl
 
 -- fragments of no bytes, however many, have none together
 pub none-counted : (given f k : ℕ) → f ≡ 0 → not (eqb given 0) ≡ not (eqb given (k * f))

@@ -17,7 +17,7 @@ use Rattle.cluster.proofs.Legal.{up_to-length, legal-shelf}
 use Rattle.cluster.specs.Ranges.{within, top_length, top_faults, content_room}
 use Rattle.cluster.specs.Refusals.{first_of, on_refusal}
 use Rattle.cluster.proofs.Tests.{within_in}
-use Rattle.erasure.specs.declared.FragmentOutcome.{FragmentOutcome}
+use Rattle.erasure.specs.Steps.{FragmentOutcome}
 use Rattle.erasure.specs.Fragments.{fragment_size_def, Part, restored}
 use Rattle.erasure.specs.Choice.{servers_at, first_different, parts_at}
 use Rattle.erasure.specs.Steps.{fragment_refusal_def, fragment_bytes, fragment_step, fragment_room, argument_checks, restored_bytes, restore_step}

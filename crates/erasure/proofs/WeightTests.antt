@@ -14,7 +14,7 @@ use Rattle.cluster.specs.Ranges.{within, top_length, top_faults, content_room}
 use Rattle.cluster.specs.Refusals.{refuse, first_of, on_refusal}
 use Rattle.cluster.specs.declared.Outcome.{Outcome}
 use Rattle.cluster.proofs.Tests.{within_bounds, refused_is}
-use Rattle.erasure.specs.declared.WeightsOutcome.{WeightsOutcome}
+use Rattle.erasure.specs.Weights.{WeightsOutcome}
 use Rattle.erasure.specs.Choice.{first_different}
 use Rattle.erasure.specs.Fragments.{fragment_size_def}
 use Rattle.erasure.specs.Steps.{each, argument_checks, restore_refusal_def}

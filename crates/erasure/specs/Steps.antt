@@ -1,10 +1,11 @@
 -- The two public operations on fragments, with their refusals in document 01's order.
-use Rattle.std.specs.Prelude.{Bool, true, not, ◌&&◌, List, [], ◌∷◌, ◌++◌, ℕ, ◌-◌, ◌*◌, eqb, ltb, length, drop, replicate}
+use Rattle.std.specs.Prelude.{Bool, true, not, ◌&&◌, Result, Ok, Err, List, [], ◌∷◌, ◌++◌, ℕ, ◌-◌, ◌*◌, eqb, ltb, length, drop, replicate}
 use Rattle.cluster.specs.Config.{shelf}
 use Rattle.cluster.specs.Ranges.{within, top_length, top_faults, content_room}
-use Rattle.cluster.specs.Refusals.{Check, refuse, first_of, on_refusal}
+use Rattle.cluster.specs.Refusals.{Check, refuse, first_of, on_refusal, refusal_number}
 use Rattle.cluster.specs.declared.Outcome.{Outcome}
-use Rattle.erasure.specs.declared.FragmentOutcome.{FragmentOutcome}
+use Rattle.cluster.specs.declared.Refusal.{Refusal}
+use Rattle.erasure.specs.declared.FragmentBytes.{FragmentBytes}
 use Rattle.erasure.specs.Fragments.{fragment_size_def, fragment, restored}
 use Rattle.erasure.specs.Choice.{first_different, parts_at}
 
@@ -29,6 +30,17 @@ fragment_refusal_def t server n =
 unfoldable pub fragment_bytes : (t server : ℕ) → List ℕ → List ℕ
 fragment_bytes t server content = fragment (shelf t).points (shelf t).threshold content server
 
+-- a fragment and its length, padded with 00h to its room; or a refusal, with nothing
+pub record FragmentOutcome : Type 0 where
+  pub number : ℕ
+  pub count : ℕ
+  pub bytes : List ℕ
+
+-- what a result says
+abbrev pub fragment_told : Result FragmentBytes Refusal → FragmentOutcome
+fragment_told (Ok f) = record { number = 0; count = f.count; bytes = f.bytes }
+fragment_told (Err why) = record { number = refusal_number why; count = 0; bytes = replicate fragment_room 0 }
+
 -- the fragment and its length, padded with 00h to its room; or a refusal
 unfoldable pub fragment_step : (t server : ℕ) → List ℕ → FragmentOutcome
 fragment_step t server content =
@@ -42,15 +54,20 @@ fragment_step t server content =
 
 -- ---- restoring
 
+-- what is asked of the content's length, of the room for it and of its fragments, of which there are count
+abbrev pub length_checks : (t n count given room : ℕ) → List Check
+length_checks t n count given room =
+    refuse 6 (ltb top_length n)
+    ∷ refuse 15 (ltb room content_room)
+    ∷ refuse 16 (not (eqb given (count * fragment_size_def (shelf t).threshold n)))
+    ∷ []
+
 -- what is asked of the arguments, in document 01's order
 unfoldable pub argument_checks : (t n : ℕ) (servers : List ℕ) (given room : ℕ) → List Check
 argument_checks t n servers given room =
     refuse 3 (not (within 1 top_faults t))
     ∷ refuse 4 (not (each (within 1 (shelf t).servers) servers))
-    ∷ refuse 6 (ltb top_length n)
-    ∷ refuse 15 (ltb room content_room)
-    ∷ refuse 16 (not (eqb given (length servers * fragment_size_def (shelf t).threshold n)))
-    ∷ []
+    ∷ length_checks t n (length servers) given room
 
 -- and of the choice: k different servers
 unfoldable pub restore_refusal_def : (t n : ℕ) (servers : List ℕ) (given room : ℕ) → ℕ

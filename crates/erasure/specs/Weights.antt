@@ -1,17 +1,18 @@
 -- The weights of restoring (document 02, W-203): what each given byte counts for in a plain run. They depend only on which servers answered, so they
 -- are made once for a record. `Steps` says what restoring gives; that it is the sum of weights times given bytes is a law, not a definition.
-use Rattle.std.specs.Prelude.{not, cond, List, [], ◌∷◌, ◌++◌, map, ℕ, ◌+◌, ◌-◌, ◌*◌, ◌/◌, ◌%◌, eqb, ltb, length, get_or, drop, replicate}
+use Rattle.std.specs.Prelude.{not, cond, Result, Ok, Err, List, [], ◌∷◌, ◌++◌, map, ℕ, ◌+◌, ◌-◌, ◌*◌, ◌/◌, ◌%◌, eqb, ltb, length, get_or, drop, replicate}
 use Rattle.gf256.specs.Gf.{times}
 use Rattle.gf256.specs.Poly.{through}
 use Rattle.gf256.specs.Bytes.{bytes}
 use Rattle.cluster.specs.Config.{shelf, point_of}
-use Rattle.cluster.specs.Ranges.{within, top_length, top_faults, content_room}
-use Rattle.cluster.specs.Refusals.{Check, refuse, first_of, on_refusal}
+use Rattle.cluster.specs.Ranges.{within, top_faults}
+use Rattle.cluster.specs.Refusals.{Check, refuse, first_of, on_refusal, refusal_number}
 use Rattle.cluster.specs.declared.Outcome.{Outcome}
-use Rattle.erasure.specs.declared.WeightsOutcome.{WeightsOutcome}
+use Rattle.cluster.specs.declared.Refusal.{Refusal}
+use Rattle.erasure.specs.declared.WeightRows.{WeightRows}
 use Rattle.erasure.specs.Fragments.{table, fragment_size_def}
 use Rattle.erasure.specs.Choice.{servers_at, first_different}
-use Rattle.erasure.specs.Steps.{each}
+use Rattle.erasure.specs.Steps.{each, length_checks}
 use Rattle.erasure.specs.System.{width, sum_to}
 
 -- ---- the weights
@@ -53,6 +54,18 @@ used_servers t servers = servers_at servers (first_different (shelf t).threshold
 unfoldable pub used_weights : (t : ℕ) (servers : List ℕ) → List ℕ
 used_weights t servers = weight_rows (shelf t).points (shelf t).threshold (map (point_of (shelf t).points) (used_servers t servers))
 
+-- k, the servers used and their weights, padded with 00h to their room; or a refusal, with nothing
+pub record WeightsOutcome : Type 0 where
+  pub number : ℕ
+  pub count : ℕ
+  pub servers : List ℕ
+  pub rows : List ℕ
+
+-- what a result says
+abbrev pub weights_told : Result WeightRows Refusal → WeightsOutcome
+weights_told (Ok w) = record { number = 0; count = w.count; servers = w.servers; rows = w.rows }
+weights_told (Err why) = record { number = refusal_number why; count = 0; servers = replicate width 0; rows = replicate rows_room 0 }
+
 -- k, the servers used and their weights, padded with 00h to their room; or a refusal
 unfoldable pub weights_step : (t : ℕ) (servers : List ℕ) → WeightsOutcome
 weights_step t servers =
@@ -79,11 +92,7 @@ weighed_bytes k n rows fragments =
 unfoldable pub weighed_refusal_def : (t n given room : ℕ) → ℕ
 weighed_refusal_def t n given room =
     first_of
-    (refuse 3 (not (within 1 top_faults t))
-    ∷ refuse 6 (ltb top_length n)
-    ∷ refuse 15 (ltb room content_room)
-    ∷ refuse 16 (not (eqb given ((shelf t).threshold * fragment_size_def (shelf t).threshold n)))
-    ∷ [])
+    (refuse 3 (not (within 1 top_faults t)) ∷ length_checks t n (shelf t).threshold given room)
 
 -- the answer and the output buffer, as restoring gives them
 unfoldable pub weighed_step : (t n : ℕ) (rows fragments output : List ℕ) → Outcome × List ℕ

@@ -1,13 +1,16 @@
 // Fragments of a content, the content from fragments, and the weights with which they give it.
 #![tactic(auto)]
 
-ghost use Rattle.std.specs.Prelude.{◌≡◌, ◌≤◌, replicate};
+ghost use Rattle.std.specs.Prelude.{◌≡◌, ◌≤◌};
 ghost use Rattle.cluster.specs.Config.{shelf};
 ghost use Rattle.cluster.specs.Ranges.{top_faults, top_length};
 ghost use Rattle.erasure.specs.Fragments.{fragment_size_def};
-ghost use Rattle.erasure.specs.Steps.{fragment_step, restore_step};
+ghost use Rattle.cluster.specs.Refusals.{outcome_told};
+ghost use Rattle.erasure.specs.Steps.{fragment_told, fragment_step, restore_step};
 ghost use Rattle.erasure.specs.System.{width};
-ghost use Rattle.erasure.specs.Weights.{rows_room, weights_step, weighed_step};
+ghost use Rattle.erasure.specs.Weights.{weights_told, weights_step, weighed_step};
+
+use cluster::Refusal;
 
 mod choice;
 mod direct;
@@ -28,18 +31,16 @@ pub const ROWS: usize = WIDTH * WIDTH;
 // Room for the longest fragment.
 pub const ROOM: usize = 512;
 
-// A fragment and its length, padded with 00h; or a refusal.
+// A fragment and its length, padded with 00h.
 #[derive(Clone, Copy)]
-pub struct FragmentOutcome {
-    pub number: u8,
+pub struct FragmentBytes {
     pub count: usize,
     pub bytes: [u8; ROOM],
 }
 
-// The servers that restoring uses, k of them, and k rows of k weights, padded with 00h; or a refusal.
+// The servers that restoring uses, k of them, and k rows of k weights, padded with 00h.
 #[derive(Clone, Copy)]
-pub struct WeightsOutcome {
-    pub number: u8,
+pub struct WeightRows {
     pub count: usize,
     pub servers: [u8; WIDTH],
     pub rows: [u8; ROWS],
@@ -66,45 +67,22 @@ pub(crate) fn size(k: usize, n: usize) -> usize
     requires { (1 ≤ k) × (k ≤ width) × (n ≤ top_length) }
     ensures { result ≡ fragment_size_def k n }
 {
-    (n + k - 1) / k
-}
-
-// No weights.
-fn no_weights(number: u8) -> WeightsOutcome
-    ensures { result ≡ record { number = number; count = 0; servers = replicate width 0; rows = replicate rows_room 0 } }
-{
-    WeightsOutcome {
-        number: number,
-        count: 0,
-        servers: [0u8; WIDTH],
-        rows: [0u8; ROWS],
-    }
+    n.div_ceil(k)
 }
 
 // ---- the operations
 
 // The fragment of a server. The table is document 01's: `(shelf t).points`.
-pub fn fragment(t: usize, server: usize, content: &[u8]) -> FragmentOutcome
-    ensures { result ≡ fragment_step t server content.now }
+pub fn fragment(t: usize, server: usize, content: &[u8]) -> Result<FragmentBytes, Refusal>
+    ensures { fragment_told result ≡ fragment_step t server content.now }
 {
-    let number = refusals::fragment_refusal(t, server, content.len());
-    if number != 0 {
-        return FragmentOutcome {
-            number: number,
-            count: 0,
-            bytes: runs::blank(),
-        };
-    }
+    refusals::fragment_refusal(t, server, content.len())?;
     let points = points::numbered();
     let s = servers_of(t);
     let k = threshold_of(t);
     let f = size(k, content.len());
-    let bytes = runs::make(&points[0..s], k, f, server, content);
-    FragmentOutcome {
-        number: 0,
-        count: f,
-        bytes: bytes,
-    }
+    let bytes = runs::make(&points[..s], k, f, server, content);
+    Ok(FragmentBytes { count: f, bytes })
 }
 
 // The content of `length` bytes that the fragments of the servers give, which stand one after the other, at the start of out.
@@ -115,51 +93,38 @@ pub fn restore(
     servers: &[usize],
     fragments: &[u8],
     out: &mut [u8],
-) -> cluster::Outcome
-    ensures { (result, out.new) ≡ restore_step t length servers.now fragments.now out.old }
+) -> Result<usize, Refusal>
+    ensures { (outcome_told result, out.new) ≡ restore_step t length servers.now fragments.now out.old }
 {
-    let number = refusals::restore_refusal(t, length, servers, fragments.len(), out.len());
-    if number != 0 {
-        return cluster::refused(number);
-    }
+    refusals::restore_refusal(t, length, servers, fragments.len(), out.len())?;
     let k = threshold_of(t);
     let c = choice::select(servers, k);
-    let count = c.count;
-    if count < k {
-        return cluster::refused(cluster::refusals::FRAGMENTS);
+    if c.count < k {
+        return Err(Refusal::Fragments);
     }
     let points = points::numbered();
     let s = servers_of(t);
-    runs::rebuild(&points[0..s], c, fragments, size(k, length), length, out);
-    cluster::Outcome {
-        number: 0,
-        count: length,
-    }
+    runs::rebuild(&points[..s], c, fragments, size(k, length), length, out);
+    Ok(length)
 }
 
 // The servers that restoring uses of those named, and the weights of their fragments. The table is document 01's: `(shelf t).points`.
-pub fn weights(t: usize, servers: &[usize]) -> WeightsOutcome
-    ensures { result ≡ weights_step t servers.now }
+pub fn weights(t: usize, servers: &[usize]) -> Result<WeightRows, Refusal>
+    ensures { weights_told result ≡ weights_step t servers.now }
 {
-    let number = refusals::weights_refusal(t, servers);
-    if number != 0 {
-        return no_weights(number);
-    }
+    refusals::weights_refusal(t, servers)?;
     let k = threshold_of(t);
     let c = choice::select(servers, k);
-    let count = c.count;
-    if count < k {
-        return no_weights(cluster::refusals::FRAGMENTS);
+    if c.count < k {
+        return Err(Refusal::Fragments);
     }
     let points = points::numbered();
     let s = servers_of(t);
-    let rows = weighing::of_chosen(&points[0..s], c);
-    WeightsOutcome {
-        number: 0,
+    Ok(WeightRows {
         count: k,
         servers: choice::used(c),
-        rows: rows,
-    }
+        rows: weighing::of_chosen(&points[..s], c),
+    })
 }
 
 // The content of `length` bytes that the fragments of the servers used, which stand one after the other, give by the rows of their weights, at
@@ -170,17 +135,11 @@ pub fn restore_weighed(
     rows: [u8; ROWS],
     fragments: &[u8],
     out: &mut [u8],
-) -> cluster::Outcome
-    ensures { (result, out.new) ≡ weighed_step t length rows fragments.now out.old }
+) -> Result<usize, Refusal>
+    ensures { (outcome_told result, out.new) ≡ weighed_step t length rows fragments.now out.old }
 {
-    let number = refusals::weighed_refusal(t, length, fragments.len(), out.len());
-    if number != 0 {
-        return cluster::refused(number);
-    }
+    refusals::weighed_refusal(t, length, fragments.len(), out.len())?;
     let k = threshold_of(t);
     runs::rebuild_weighed(rows, k, fragments, size(k, length), length, out);
-    cluster::Outcome {
-        number: 0,
-        count: length,
-    }
+    Ok(length)
 }

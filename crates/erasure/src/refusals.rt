@@ -1,22 +1,18 @@
 // The refusals of the operations, each list in document 01's order.
-ghost use Rattle.std.specs.Prelude.{not, ◌≡◌, ◌*◌, eqb};
-ghost use Rattle.cluster.specs.Ranges.{within};
-ghost use Rattle.cluster.specs.Refusals.{first_of};
-ghost use Rattle.erasure.specs.Steps.{each, fragment_refusal_def, argument_checks};
+ghost use Rattle.std.specs.Prelude.{not, ◌≡◌, ◌*◌, ◌≤◌, eqb};
+ghost use Rattle.std.specs.List.{list_any};
+ghost use Rattle.cluster.specs.Ranges.{within, top_faults};
+ghost use Rattle.cluster.specs.Refusals.{first_of, number_told};
+ghost use Rattle.erasure.specs.Steps.{fragment_refusal_def, argument_checks, length_checks};
 ghost use Rattle.erasure.specs.Weights.{weights_checks, weighed_refusal_def};
+
+use cluster::Refusal;
 
 // Whether a server is not from 1 to most.
 fn server_outside(servers: &[usize], most: usize) -> bool
-    ensures { result ≡ not (each (within 1 most) servers.now) }
+    ensures { result ≡ list_any (λ s. not (within 1 most s)) servers.now }
 {
-    let mut i: usize = 0;
-    while i < servers.len() {
-        if cluster::outside(1, most, servers[i]) {
-            return true;
-        }
-        i += 1;
-    }
-    false
+    servers.iter().any(|s| cluster::outside(1, most, *s))
 }
 
 // Whether given is not count times f. The product is not made: it could pass the largest number.
@@ -25,27 +21,63 @@ fn miscounted(given: usize, count: usize, f: usize) -> bool
     ensures { result ≡ not (eqb given (count * f)) }
 {
     if f == 0 {
-        return given != 0;
+        given != 0
+    } else {
+        given % f != 0 || given / f != count
     }
-    if given % f != 0 {
-        return true;
-    }
-    given / f != count
 }
 
-pub(crate) fn fragment_refusal(t: usize, server: usize, n: usize) -> u8
-    ensures { result ≡ fragment_refusal_def t server n }
+// What is asked of a content's length, of the room for it and of its fragments, of which there are count.
+fn lengths_refusal(
+    t: usize,
+    n: usize,
+    count: usize,
+    given: usize,
+    room: usize,
+) -> Result<(), Refusal>
+    requires { (1 ≤ t) × (t ≤ top_faults) }
+    ensures { number_told result ≡ first_of (length_checks t n count given room) }
+{
+    if n > cluster::TOP_LENGTH {
+        return Err(Refusal::Length);
+    }
+    if room < cluster::CONTENT_ROOM {
+        return Err(Refusal::Room);
+    }
+    if miscounted(given, count, crate::size(crate::threshold_of(t), n)) {
+        return Err(Refusal::Fragments);
+    }
+    Ok(())
+}
+
+#[tactic(auto, unfolding(crate::specs::Steps::fragment_refusal_def))]
+pub(crate) fn fragment_refusal(t: usize, server: usize, n: usize) -> Result<(), Refusal>
+    ensures { number_told result ≡ fragment_refusal_def t server n }
 {
     if cluster::outside(1, cluster::TOP_FAULTS, t) {
-        return cluster::refusals::FAULTS;
+        return Err(Refusal::Faults);
     }
     if cluster::outside(1, crate::servers_of(t), server) {
-        return cluster::refusals::SERVER;
+        return Err(Refusal::Server);
     }
     if n > cluster::TOP_LENGTH {
-        return cluster::refusals::LENGTH;
+        return Err(Refusal::Length);
     }
-    0
+    Ok(())
+}
+
+// The refusals of the weights, but for too few different servers.
+#[tactic(auto, unfolding(crate::specs::Weights::weights_checks))]
+pub(crate) fn weights_refusal(t: usize, servers: &[usize]) -> Result<(), Refusal>
+    ensures { number_told result ≡ first_of (weights_checks t servers.now) }
+{
+    if cluster::outside(1, cluster::TOP_FAULTS, t) {
+        return Err(Refusal::Faults);
+    }
+    if server_outside(servers, crate::servers_of(t)) {
+        return Err(Refusal::Server);
+    }
+    Ok(())
 }
 
 // The refusals of restoring, but for too few different servers.
@@ -55,55 +87,19 @@ pub(crate) fn restore_refusal(
     servers: &[usize],
     given: usize,
     room: usize,
-) -> u8
-    ensures { result ≡ first_of (argument_checks t n servers.now given room) }
+) -> Result<(), Refusal>
+    ensures { number_told result ≡ first_of (argument_checks t n servers.now given room) }
 {
-    if cluster::outside(1, cluster::TOP_FAULTS, t) {
-        return cluster::refusals::FAULTS;
-    }
-    if server_outside(servers, crate::servers_of(t)) {
-        return cluster::refusals::SERVER;
-    }
-    if n > cluster::TOP_LENGTH {
-        return cluster::refusals::LENGTH;
-    }
-    if room < cluster::CONTENT_ROOM {
-        return cluster::refusals::ROOM;
-    }
-    if miscounted(given, servers.len(), crate::size(crate::threshold_of(t), n)) {
-        return cluster::refusals::FRAGMENTS;
-    }
-    0
+    weights_refusal(t, servers)?;
+    lengths_refusal(t, n, servers.len(), given, room)
 }
 
-// The refusals of the weights, but for too few different servers.
-pub(crate) fn weights_refusal(t: usize, servers: &[usize]) -> u8
-    ensures { result ≡ first_of (weights_checks t servers.now) }
+#[tactic(auto, unfolding(crate::specs::Weights::weighed_refusal_def))]
+pub(crate) fn weighed_refusal(t: usize, n: usize, given: usize, room: usize) -> Result<(), Refusal>
+    ensures { number_told result ≡ weighed_refusal_def t n given room }
 {
     if cluster::outside(1, cluster::TOP_FAULTS, t) {
-        return cluster::refusals::FAULTS;
+        return Err(Refusal::Faults);
     }
-    if server_outside(servers, crate::servers_of(t)) {
-        return cluster::refusals::SERVER;
-    }
-    0
-}
-
-pub(crate) fn weighed_refusal(t: usize, n: usize, given: usize, room: usize) -> u8
-    ensures { result ≡ weighed_refusal_def t n given room }
-{
-    if cluster::outside(1, cluster::TOP_FAULTS, t) {
-        return cluster::refusals::FAULTS;
-    }
-    if n > cluster::TOP_LENGTH {
-        return cluster::refusals::LENGTH;
-    }
-    if room < cluster::CONTENT_ROOM {
-        return cluster::refusals::ROOM;
-    }
-    let k = crate::threshold_of(t);
-    if miscounted(given, k, crate::size(k, n)) {
-        return cluster::refusals::FRAGMENTS;
-    }
-    0
+    lengths_refusal(t, n, crate::threshold_of(t), given, room)
 }
