@@ -10,11 +10,9 @@ ghost use Rattle.wire.specs.Places.{padded};
 fn joined_zero(s: &[u8]) -> bool
     ensures { result ≡ zeros s.now }
 {
-    let mut all = 0u8;
-    let mut i = 0;
-    while i < s.len() {
-        all |= s[i];
-        i += 1;
+    let mut all = 0;
+    for b in s {
+        all |= *b;
     }
     all == 0
 }
