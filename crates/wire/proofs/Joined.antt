@@ -10,7 +10,7 @@ use native.Mathlib.Numerals.{add-one}
 use lib.Bits.{bit_or, bit_xor, or_zero_l, or_add_and, and_le_l, and_le_r, xor_self, xor_add_and}
 use lib.Dec.{eqb}
 use lib.ListN.{length, get_or, take, drop, drop_of_length-le, take-append-drop}
-use lib.Seq.{drop-cons, drop-drop}
+use lib.Seq.{drop-cons}
 use borrow.Author.Tests.{eq-eqb, ne_eqb, eqb-true, eqb-false}
 use Rattle.format.specs.Format.{zeros}
 use Rattle.protocol.specs.Values.{same_list}
@@ -46,16 +46,14 @@ zeros-append : (a b : List ℕ) → zeros (a ++ b) ≡ zeros a && zeros b
 zeros-append [] b = refl
 zeros-append (x ∷ xs) b = ap (λ (z : Bool). eqb x 0 && z) (zeros-append xs b) ∙ sym (and_assoc (eqb x 0) (zeros xs) (zeros b))
 
-module _ (s : List ℕ) (at n : ℕ) where
-  zeros-split : zeros (drop at s) ≡ zeros (take n (drop at s)) && zeros (drop (at + n) s)
-  zeros-split =
-      ap zeros (sym (take-append-drop n (drop at s))) ∙ (zeros-append (take n (drop at s)) (drop n (drop at s))
-      ∙ ap (λ (z : List ℕ). zeros (take n (drop at s)) && zeros z) (drop-drop n at s))
+module _ (s : List ℕ) (n : ℕ) where
+  zeros-split : zeros s ≡ zeros (take n s) && zeros (drop n s)
+  zeros-split = ap zeros (sym (take-append-drop n s)) ∙ zeros-append (take n s) (drop n s)
 
-  pub chunk-zero : zeros (take n (drop at s)) ≡ true → zeros (drop at s) ≡ zeros (drop (at + n) s)
+  pub chunk-zero : zeros (take n s) ≡ true → zeros s ≡ zeros (drop n s)
   chunk-zero e = zeros-split ∙ rw e refl
 
-  pub chunk-other : zeros (take n (drop at s)) ≡ false → zeros (drop at s) ≡ false
+  pub chunk-other : zeros (take n s) ≡ false → zeros s ≡ false
   chunk-other e = zeros-split ∙ rw e refl
 
 pub lengths_differ : (a b : List ℕ) → (length a ≡ length b → ⊥) → same_list a b ≡ false

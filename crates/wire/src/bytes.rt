@@ -24,15 +24,14 @@ const CHUNK: usize = 256;
 pub fn all_zero(s: &[u8]) -> bool
     ensures { result ≡ zeros s.now }
 {
-    let mut at = 0;
-    while CHUNK <= s.len() - at {
-        let end = at + CHUNK;
-        if !joined_zero(&s[at..end]) {
+    let mut left = s;
+    while let Some((chunk, more)) = left.split_first_chunk::<CHUNK>() {
+        if !joined_zero(chunk) {
             return false;
         }
-        at = end;
+        left = more;
     }
-    joined_zero(&s[at..])
+    joined_zero(left)
 }
 
 // The same bytes. No difference ends the loop, as in all_zero, so that its steps do not tell where bytes of one length differ. A tag that is checked is
