@@ -62,13 +62,11 @@ lengths_differ [] (y ∷ ys) h = refl
 lengths_differ (x ∷ xs) [] h = refl
 lengths_differ (x ∷ xs) (y ∷ ys) h = ap (λ (z : Bool). eqb x y && z) (lengths_differ xs ys (λ e. h (ap suc e))) ∙ and-false (eqb x y)
 
-module _ (a b : List ℕ) (i : ℕ) where
-  pub same_more : (all : ℕ) → i < length a → i < length b
-      → eqb all 0 && same_list (drop i a) (drop i b) ≡ eqb (bit_or all (bit_xor (get_or a i 0) (get_or b i 0))) 0 && same_list (drop (i + 1) a)
-      (drop (i + 1) b)
-  same_more all h k =
-      rw (add-one, drop-cons a i 0 h, drop-cons b i 0 k, or-eqb all (bit_xor (get_or a i 0) (get_or b i 0)), xor-eqb (get_or a i 0) (get_or b i 0))
-      (sym (and_assoc (eqb all 0) (eqb (get_or a i 0) (get_or b i 0)) (same_list (drop (suc i) a) (drop (suc i) b))))
+pub same_more : (x y : ℕ) (xs ys : List ℕ) (all : ℕ)
+    → eqb all 0 && same_list (x ∷ xs) (y ∷ ys) ≡ eqb (bit_or all (bit_xor x y)) 0 && same_list xs ys
+same_more x y xs ys all = rw (or-eqb all (bit_xor x y), xor-eqb x y) (sym (and_assoc (eqb all 0) (eqb x y) (same_list xs ys)))
 
-  pub same_end : (all : ℕ) → length a ≤ i → length b ≤ i → eqb all 0 && same_list (drop i a) (drop i b) ≡ eqb all 0
-  same_end all h k = rw (drop_of_length-le a h, drop_of_length-le b k) (and-true (eqb all 0))
+pub same_end : (xs ys : List ℕ) → length xs ≡ 0 → length ys ≡ 0 → (p : Bool) → p && same_list xs ys ≡ p
+same_end [] [] h k p = and-true p
+same_end [] (y ∷ ys) h k p = absurd (omega arith)
+same_end (x ∷ xs) ys h k p = absurd (omega arith)

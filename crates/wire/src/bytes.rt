@@ -42,11 +42,9 @@ pub fn same_throughout(a: &[u8], b: &[u8]) -> bool
     if a.len() != b.len() {
         return false;
     }
-    let mut all = 0u8;
-    let mut i = 0;
-    while i < a.len() {
-        all |= a[i] ^ b[i];
-        i += 1;
+    let mut all = 0;
+    for (x, y) in a.iter().zip(b) {
+        all |= *x ^ *y;
     }
     all == 0
 }
