@@ -53,10 +53,7 @@ pub fn same_throughout(a: &[u8], b: &[u8]) -> bool
 pub fn same(a: &[u8], b: &[u8]) -> bool
     ensures { result ≡ same_list a.now b.now }
 {
-    if byte_at(a, 3) != byte_at(b, 3) {
-        return false;
-    }
-    same_throughout(a, b)
+    byte_at(a, 3) == byte_at(b, 3) && same_throughout(a, b)
 }
 
 // The bytes from the place at on.
