@@ -60,10 +60,7 @@ pub fn same(a: &[u8], b: &[u8]) -> bool
 pub fn rest(s: &[u8], at: usize) -> &[u8]
     ensures { result.now ≡ drop at s.now }
 {
-    if s.len() <= at {
-        return &s[..0];
-    }
-    &s[at..]
+    &s[at.min(s.len())..]
 }
 
 // At most n bytes from the place at on.
