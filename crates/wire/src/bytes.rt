@@ -64,17 +64,12 @@ pub fn rest(s: &[u8], at: usize) -> &[u8]
 }
 
 // At most n bytes from the place at on.
+#[tactic(auto, unfolding(format::specs::Reading::bytes_at))]
 pub fn part(s: &[u8], at: usize, n: usize) -> &[u8]
     ensures { result.now ≡ bytes_at s.now at n }
 {
-    if s.len() <= at {
-        return &s[..0];
-    }
-    if s.len() - at <= n {
-        return &s[at..];
-    }
-    let end = at + n;
-    &s[at..end]
+    let left = rest(s, at);
+    &left[..n.min(left.len())]
 }
 
 pub fn byte_at(s: &[u8], at: usize) -> u8
