@@ -75,7 +75,7 @@ pub fn part(s: &[u8], at: usize, n: usize) -> &[u8]
 pub fn byte_at(s: &[u8], at: usize) -> u8
     ensures { result ≡ get_or s.now at 0 }
 {
-    if at < s.len() { s[at] } else { 0 }
+    s.get(at).copied().unwrap_or(0)
 }
 
 // The number of the first 2 bytes.
