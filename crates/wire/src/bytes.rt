@@ -82,7 +82,7 @@ pub fn byte_at(s: &[u8], at: usize) -> u8
 pub fn number2(s: &[u8]) -> u32
     ensures { result ≡ value2 (get_or s.now 0 0) (get_or s.now 1 0) }
 {
-    256 * (byte_at(s, 0) as u32) + (byte_at(s, 1) as u32)
+    u32::from(u16::from_be_bytes([byte_at(s, 0), byte_at(s, 1)]))
 }
 
 // The number of 4 bytes, the highest first.
