@@ -85,21 +85,14 @@ pub fn number2(s: &[u8]) -> u32
     u32::from(u16::from_be_bytes([byte_at(s, 0), byte_at(s, 1)]))
 }
 
-// The number of 4 bytes, the highest first.
-fn joined4(a: u8, b: u8, c: u8, d: u8) -> u32
-    ensures { result ≡ value4 a b c d }
-{
-    16777216 * (a as u32) + 65536 * (b as u32) + 256 * (c as u32) + (d as u32)
-}
-
 // The number of the first 4 bytes. Where all are there they are read with one test, and so at once.
 pub fn number4(s: &[u8]) -> u32
     ensures { result ≡ value4 (get_or s.now 0 0) (get_or s.now 1 0) (get_or s.now 2 0) (get_or s.now 3 0) }
 {
-    if crate::sizes::NUMBER <= s.len() {
-        return joined4(s[0], s[1], s[2], s[3]);
+    match s.first_chunk::<4>() {
+        Some(bytes) => u32::from_be_bytes(*bytes),
+        None => u32::from_be_bytes([byte_at(s, 0), byte_at(s, 1), byte_at(s, 2), byte_at(s, 3)]),
     }
-    joined4(byte_at(s, 0), byte_at(s, 1), byte_at(s, 2), byte_at(s, 3))
 }
 
 // A number's 2 bytes, the highest first.
