@@ -99,7 +99,7 @@ pub fn number4(s: &[u8]) -> u32
 pub fn bytes2(v: u16) -> [u8; crate::sizes::LENGTH]
     ensures { result ≡ print2 v }
 {
-    [(v / 256) as u8, (v % 256) as u8]
+    v.to_be_bytes()
 }
 
 // A number's 4 bytes, the highest first.
