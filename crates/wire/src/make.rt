@@ -5,30 +5,16 @@ ghost use Rattle.protocol.specs.Packet.{head_f, stamp_f};
 ghost use Rattle.wire.specs.Make.{placed, packet_step};
 ghost use Rattle.format.specs.Reading.{Wrote};
 
-// The bytes written at a place where there is room for them.
-fn copy(out: &mut [u8], at: usize, bytes: &[u8]) -> usize
-    requires { at + length bytes.now ≤ length out.old }
-    ensures { Wrote out.old at bytes.now out.new result }
-{
-    let mut i = 0;
-    while i < bytes.len() {
-        out[at + i] = bytes[i];
-        i += 1;
-    }
-    at + i
-}
-
 // Each put_ writes at a place, or nothing where there is no room, and answers the place past what it wrote.
 pub fn put(out: &mut [u8], at: usize, bytes: &[u8]) -> usize
     ensures { record { next = result; output = out.new } ≡ placed out.old at bytes.now }
 {
-    if out.len() < at {
+    if out.len() < at || out.len() - at < bytes.len() {
         return at;
     }
-    if out.len() - at < bytes.len() {
-        return at;
-    }
-    copy(out, at, bytes)
+    let end = at + bytes.len();
+    out[at..end].copy_from_slice(bytes);
+    end
 }
 
 pub fn put_byte(out: &mut [u8], at: usize, v: u8) -> usize
