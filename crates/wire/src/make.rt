@@ -20,8 +20,7 @@ pub fn put(out: &mut [u8], at: usize, bytes: &[u8]) -> usize
 pub fn put_byte(out: &mut [u8], at: usize, v: u8) -> usize
     ensures { record { next = result; output = out.new } ≡ placed out.old at (v ∷ []) }
 {
-    let bytes = [v];
-    put(out, at, &bytes)
+    put(out, at, &[v])
 }
 
 pub fn put_number2(out: &mut [u8], at: usize, v: u16) -> usize
