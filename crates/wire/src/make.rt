@@ -26,8 +26,7 @@ pub fn put_byte(out: &mut [u8], at: usize, v: u8) -> usize
 pub fn put_number2(out: &mut [u8], at: usize, v: u16) -> usize
     ensures { record { next = result; output = out.new } ≡ placed out.old at (print2 v) }
 {
-    let bytes = crate::bytes::bytes2(v);
-    put(out, at, &bytes)
+    put(out, at, &v.to_be_bytes())
 }
 
 pub fn put_number4(out: &mut [u8], at: usize, v: u32) -> usize
