@@ -32,8 +32,7 @@ pub fn put_number2(out: &mut [u8], at: usize, v: u16) -> usize
 pub fn put_number4(out: &mut [u8], at: usize, v: u32) -> usize
     ensures { record { next = result; output = out.new } ≡ placed out.old at (print4 v) }
 {
-    let bytes = crate::bytes::bytes4(v);
-    put(out, at, &bytes)
+    put(out, at, &v.to_be_bytes())
 }
 
 pub fn put_stamp(out: &mut [u8], at: usize, stamp: protocol::Stamp) -> usize
