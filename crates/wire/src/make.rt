@@ -38,16 +38,12 @@ pub fn put_number4(out: &mut [u8], at: usize, v: u32) -> usize
 pub fn put_stamp(out: &mut [u8], at: usize, stamp: protocol::Stamp) -> usize
     ensures { record { next = result; output = out.new } ≡ placed out.old at (stamp_f.print stamp) }
 {
-    if out.len() < at {
-        return at;
-    }
-    if out.len() - at < crate::sizes::STAMP {
+    if out.len() < at || out.len() - at < crate::sizes::STAMP {
         return at;
     }
     let a = put_number4(out, at, stamp.number);
     let b = put_byte(out, a, stamp.writer);
-    let tag = stamp.tag;
-    put(out, b, &tag)
+    put(out, b, &stamp.tag)
 }
 
 pub fn put_head(out: &mut [u8], at: usize, head: protocol::Head) -> usize
