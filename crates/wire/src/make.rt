@@ -49,14 +49,10 @@ pub fn put_stamp(out: &mut [u8], at: usize, stamp: protocol::Stamp) -> usize
 pub fn put_head(out: &mut [u8], at: usize, head: protocol::Head) -> usize
     ensures { record { next = result; output = out.new } ≡ placed out.old at (head_f.print head) }
 {
-    if out.len() < at {
+    if out.len() < at || out.len() - at < crate::sizes::HEAD {
         return at;
     }
-    if out.len() - at < crate::sizes::HEAD {
-        return at;
-    }
-    let first = [head.kind, head.client, head.server, head.t];
-    let a = put(out, at, &first);
+    let a = put(out, at, &[head.kind, head.client, head.server, head.t]);
     put_number4(out, a, head.call)
 }
 
