@@ -1,56 +1,23 @@
 -- Parts of a list of bytes: past the end there is nothing, and what is padded is the bytes themselves where there are enough.
 -- Assumes nothing.
-use mathlib.Core.Path.{◌≡◌, refl, sym, ap, ◌∙◌}
+use mathlib.Core.Path.{◌≡◌, refl, sym, ap, ap₂, ◌∙◌}
 use mathlib.Core.List.{List, [], ◌∷◌, ◌++◌}
-use Prim.Native.Nat.{ℕ, zero, suc, ◌+◌, ◌-◌, ◌≤◌, ◌<◌}
+use Prim.Native.Nat.{ℕ, zero, suc, ◌+◌, ◌-◌, ◌≤◌, ◌<◌, min}
 use native.Mathlib.Omega.{arith}
-use native.Mathlib.Nat.{zero-add}
-use lib.ListN.{length, get_or, take, drop, replicate, length-append, length-drop, drop_of_length-le, length-replicate}
-use lib.Seq.{take_all, take-nil, take-append-le, take-append-add, length-take-le, get_or-take, get_or-drop, ext_get_or}
+use lib.ListN.{length, get_or, take, drop, replicate, length-append, length-drop, length-replicate}
+use lib.Seq.{take-append-le, take-append-add, length-take-le, get_or-take, get_or-drop, ext_get_or}
+use Rattle.std.proofs.lemmas.List.{take_min, length-take}
 use Rattle.hmac.specs.Hmac.{tag_size}
 use Rattle.format.specs.Format.{value4}
 use Rattle.protocol.specs.Values.{stamp_size}
 use Rattle.protocol.specs.View.{stamp_at_def}
-use Rattle.format.specs.Reading.{bytes_at, put}
+use Rattle.format.specs.Reading.{bytes_at}
 use Rattle.format.proofs.Places.{take-zeros, drop-zeros}
 use Rattle.wire.specs.Places.{padded}
-use Rattle.wire.specs.Make.{placed}
-use Rattle.wire.proofs.Put.{placed-wrote}
-
--- past the end
-pub get_d_past : (s : List ℕ) (i : ℕ) → length s ≤ i → get_or s i 0 ≡ 0
-get_d_past [] i h = refl
-get_d_past (x ∷ xs) zero h = absurd (omega arith)
-get_d_past (x ∷ xs) (suc i) h = get_d_past xs i (omega arith)
-
-module _ (s : List ℕ) (at : ℕ) where
-  pub rest_past : length s ≤ at → [] ≡ drop at s
-  rest_past h = sym (drop_of_length-le s h)
-
-  pub rest-whole : (n : ℕ) → length s - at ≡ n → take n (drop at s) ≡ drop at s
-  rest-whole n e = take_all n (drop at s) (omega (arith, length-drop at s))
-
-  pub part_past : (n : ℕ) → length s ≤ at → [] ≡ bytes_at s at n
-  unfolding bytes_at
-  part_past n h = rw (drop_of_length-le s h, take-nil n)
-
-  pub part_short : (n m : ℕ) → length s - at ≤ n → length s - at ≤ m → take n (drop at s) ≡ bytes_at s at m
-  unfolding bytes_at
-  part_short n m h k =
-      take_all n (drop at s) (omega (arith, length-drop at s)) ∙ sym (take_all m (drop at s) (omega (arith, length-drop at s)))
-
-  pub part-whole : (m n : ℕ) → m ≡ n → take m (drop at s) ≡ bytes_at s at n
-  unfolding bytes_at
-  part-whole m n e = ap (λ (k : ℕ). take k (drop at s)) e
 
 pub part-most : (s : List ℕ) (at n : ℕ) → length (bytes_at s at n) ≤ n
 unfolding bytes_at
-part-most s at n = take-most n (drop at s)
-  where
-    take-most : (n : ℕ) (l : List ℕ) → length (take n l) ≤ n
-    take-most zero l = omega arith
-    take-most (suc n) [] = omega arith
-    take-most (suc n) (x ∷ xs) = let h = take-most n xs in omega arith
+part-most s at n = omega (arith, length-take n (drop at s))
 
 -- ---- padding
 
@@ -95,24 +62,24 @@ padded-cut n d =
 
 -- ---- an array that holds zeros, and then bytes from its start on
 
-put-padded : (n : ℕ) (s : List ℕ) → length s ≤ n → put (replicate n 0) 0 s ≡ padded n s
-unfolding put padded
-put-padded n s h =
+filled : (n : ℕ) (s : List ℕ) → length s ≤ n → s ++ drop (length s) (replicate n 0) ≡ padded n s
+unfolding padded
+filled n s h =
     let z : List ℕ = replicate n 0 in
     let m : n ≡ length s + (n - length s) = omega arith in
     let p : take n (s ++ z) ≡ s ++ replicate (n - length s) 0 =
     ap (λ (k : ℕ). take k (s ++ z)) m ∙ take-append-add s z (n - length s) ∙ ap (λ (y : List ℕ). s ++ y)
     (take-zeros (n - length s) n (omega arith)) in
-    rw (zero-add (length s)) (ap (λ (y : List ℕ). s ++ y) (drop-zeros (length s) n) ∙ sym p)
+    ap (λ (y : List ℕ). s ++ y) (drop-zeros (length s) n) ∙ sym p
 
-pub placed-padded : (n : ℕ) (d : List ℕ) (at : ℕ) {b e : List ℕ} {k : ℕ} → b ≡ bytes_at d at n → record { next = k; output = e }
-    ≡ placed (replicate n 0)
-    0 b
-    → e ≡ padded n (drop at d)
+-- what there is of the bytes, over zeros
+pub padded-filled : (n : ℕ) (s : List ℕ) → take (min n (length s)) s ++ drop (min n (length s)) (replicate n 0) ≡ padded n s
 unfolding bytes_at
-placed-padded n d at {b} q p =
-    let l : length b ≤ n = rw q (part-most d at n) in
-    (placed-wrote p (omega (arith, length-replicate {A = ℕ} n 0))).bytes ∙ put-padded n b l ∙ ap (padded n) q ∙ padded-cut n (drop at d)
+padded-filled n s =
+    let m : min n (length s) ≡ length (take n s) = sym (length-take n s) in
+    ap₂ (λ (x : List ℕ) (k : ℕ). x ++ drop k (replicate n 0)) (take_min n s) m
+    ∙ filled n (take n s) (omega (arith, length-take n s))
+    ∙ padded-cut n s
 
 -- a stamp by its places
 pub stamp-padded : (s : List ℕ)

@@ -102,32 +102,19 @@ pub fn bytes2(v: u16) -> [u8; crate::sizes::LENGTH]
     v.to_be_bytes()
 }
 
-// A number's 4 bytes, the highest first.
-pub(crate) fn bytes4(v: u32) -> [u8; crate::sizes::NUMBER]
-    ensures { result ≡ print4 v }
+// The first N bytes by value, followed by zeros where they are fewer.
+pub fn first_bytes<const N: usize>(s: &[u8]) -> [u8; N]
+    ensures { result ≡ padded N s.now }
 {
-    [
-        (v / 16777216) as u8,
-        (v / 65536 % 256) as u8,
-        (v / 256 % 256) as u8,
-        (v % 256) as u8,
-    ]
-}
-
-// The first bytes as a tag, by value, followed by zeros where they are fewer.
-pub(crate) fn tag_of(s: &[u8]) -> [u8; hmac::TAG]
-    ensures { result ≡ padded tag_size s.now }
-{
-    let mut a = [0u8; hmac::TAG];
-    let _ = crate::make::put(&mut a, 0, part(s, 0, hmac::TAG));
+    let mut a = [0; N];
+    let n = N.min(s.len());
+    a[..n].copy_from_slice(&s[..n]);
     a
 }
 
-// The first bytes as a nonce or a digest, by value, followed by zeros where they are fewer.
+// The first bytes as a nonce or a digest.
 pub fn nonce_of(s: &[u8]) -> [u8; cluster::KEY]
     ensures { result ≡ padded nonce_size s.now }
 {
-    let mut a = [0u8; cluster::KEY];
-    let _ = crate::make::put(&mut a, 0, part(s, 0, cluster::KEY));
-    a
+    first_bytes(s)
 }

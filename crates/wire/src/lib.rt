@@ -3,9 +3,9 @@
 //
 // sizes   digests_size, tags_size, candidate_size, fragment_size, share_size: lengths for a shelf's t (protocol's Values, erasure's Fragments)
 // kept    the places in the bytes that a client keeps (protocol's View)
-// bytes   all_zero: zeros; same: sameList; rest: drop; part: bytesAt of crate format; byte_at: getD; number2, number4: value2, value4;
-//         bytes2, bytes4: print2, print4; tag_of, nonce_of: padded
-// values  label_at: labelOf; stamp_at: stamp_at_def, padded; rank_at: rank; head_at: head_at_def; CandidateHead::{blank, new, is_blank, below};
+// bytes   all_zero: zeros; same: same_list; rest: drop; part: bytes_at of crate format; byte_at: get_or; number2, number4: value2, value4;
+//         bytes2: print2; first_bytes, nonce_of: padded
+// values  label_at: label_of; stamp_at: stamp_at_def, padded; rank_at: rank; head_at: head_at_def; CandidateHead::{blank, new, is_blank, below};
 //         Stamp's own functions stand in crate protocol
 // fields  byte_field, number2_field, number4_field, code_field: Reads' FieldAs, a number and the cursor past it, or None where nothing is taken
 // parts   share_field, candidates_field: FieldAs too; stamp_field, any_stamp_field, write_field, candidate_field, any_candidate_field, held_field:

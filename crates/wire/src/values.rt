@@ -4,7 +4,7 @@ ghost use Rattle.protocol.specs.Values.{label_of, rank, below, stamp_size};
 ghost use Rattle.protocol.specs.View.{stamp_at_def};
 ghost use Rattle.wire.specs.Places.{padded, blank_head, same_head, head_at_def};
 
-use crate::bytes::{byte_at, nonce_of, number4, rest, tag_of};
+use crate::bytes::{byte_at, first_bytes, nonce_of, number4, rest};
 
 // Number and writer of the stamp of the first bytes.
 #[tactic(auto, unfolding(protocol::specs::View::stamp_at_def))]
@@ -25,7 +25,7 @@ pub fn stamp_at(s: &[u8]) -> protocol::Stamp
     protocol::Stamp::new(
         label.number,
         label.writer,
-        tag_of(rest(s, crate::sizes::LABEL)),
+        first_bytes(rest(s, crate::sizes::LABEL)),
     )
 }
 

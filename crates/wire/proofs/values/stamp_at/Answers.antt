@@ -5,4 +5,4 @@ use Rattle.wire.proofs.values.stamp_at.Goals as goal
 
 pub returns : goal.returns
 unfolding stamp_at_def
-returns c = c.new.ensures ∙ rw (c.label_at-label.ensures, c.tag_of.ensures, c.rest.ensures) (stamp-padded c.args.s.now)
+returns c = c.new.ensures ∙ rw (c.label_at-label.ensures, c.first_bytes.ensures, c.rest.ensures) (stamp-padded c.args.s.now)
