@@ -24,25 +24,12 @@ const COUNT_PLACE: usize = ROUND_PLACE + 1;
 
 const NUMBERS: usize = COUNT_PLACE + 1;
 
-// Which servers have replied. Where all marks are there they are copied with one test, and so at once.
+// Which servers have replied.
+#[tactic(auto, unfolding(crate::specs::State::marks_at_def))]
 fn marks_at(bytes: &[u8]) -> [u8; cluster::MOST_SERVERS]
     ensures { result ≡ marks_at_def bytes.now }
 {
-    let mut a = [0u8; cluster::MOST_SERVERS];
-    if bytes.len() < SIZE {
-        let _ = wire::make::put(
-            &mut a,
-            0,
-            wire::bytes::part(bytes, NUMBERS, cluster::MOST_SERVERS),
-        );
-        return a;
-    }
-    let mut i = 0;
-    while i < cluster::MOST_SERVERS {
-        a[i] = bytes[NUMBERS + i];
-        i += 1;
-    }
-    a
+    wire::bytes::first_bytes(wire::bytes::rest(bytes, NUMBERS))
 }
 
 // The length of the content.
@@ -52,31 +39,27 @@ fn length_at(bytes: &[u8]) -> u16
     wire::bytes::number2(wire::bytes::rest(bytes, LENGTH_PLACE)) as u16
 }
 
+#[tactic(auto, unfolding(crate::specs::State::tally_at_def))]
 fn tally_at(bytes: &[u8]) -> protocol::Tally
     ensures { result ≡ tally_at_def bytes.now }
 {
-    let round = wire::bytes::byte_at(bytes, ROUND_PLACE);
-    let count = wire::bytes::byte_at(bytes, COUNT_PLACE);
     protocol::Tally {
-        round: round,
-        count: count,
+        round: wire::bytes::byte_at(bytes, ROUND_PLACE),
+        count: wire::bytes::byte_at(bytes, COUNT_PLACE),
         marks: marks_at(bytes),
     }
 }
 
 // The state in bytes; a byte that is missing is 0.
+#[tactic(auto, unfolding(crate::specs::State::call_at))]
 pub fn read(bytes: &[u8]) -> protocol::Call
     ensures { result ≡ call_at bytes.now }
 {
-    let number = wire::bytes::number4(bytes);
-    let last = wire::bytes::number4(wire::bytes::rest(bytes, LAST_PLACE));
-    let high = wire::bytes::number4(wire::bytes::rest(bytes, HIGH_PLACE));
-    let length = length_at(bytes);
     protocol::Call {
-        number: number,
-        last: last,
-        high: high,
-        length: length,
+        number: wire::bytes::number4(bytes),
+        last: wire::bytes::number4(wire::bytes::rest(bytes, LAST_PLACE)),
+        high: wire::bytes::number4(wire::bytes::rest(bytes, HIGH_PLACE)),
+        length: length_at(bytes),
         tally: tally_at(bytes),
     }
 }
@@ -85,14 +68,13 @@ pub fn read(bytes: &[u8]) -> protocol::Call
 fn numbers_of(call: protocol::Call) -> [u8; NUMBERS]
     ensures { result ≡ numbers call }
 {
-    let tally = call.tally;
-    let mut bytes = [0u8; NUMBERS];
+    let mut bytes = [0; NUMBERS];
     wire::make::put_number4(&mut bytes, 0, call.number);
     wire::make::put_number4(&mut bytes, LAST_PLACE, call.last);
     wire::make::put_number4(&mut bytes, HIGH_PLACE, call.high);
     wire::make::put_number2(&mut bytes, LENGTH_PLACE, call.length);
-    wire::make::put_byte(&mut bytes, ROUND_PLACE, tally.round);
-    wire::make::put_byte(&mut bytes, COUNT_PLACE, tally.count);
+    wire::make::put_byte(&mut bytes, ROUND_PLACE, call.tally.round);
+    wire::make::put_byte(&mut bytes, COUNT_PLACE, call.tally.count);
     bytes
 }
 
@@ -103,9 +85,6 @@ pub fn put(bytes: &mut [u8], call: protocol::Call)
     if bytes.len() < SIZE {
         return;
     }
-    let first = numbers_of(call);
-    let tally = call.tally;
-    let marks = tally.marks;
-    let n = wire::make::put(bytes, 0, &first);
-    let _ = wire::make::put(bytes, n, &marks);
+    let n = wire::make::put(bytes, 0, &numbers_of(call));
+    wire::make::put(bytes, n, &call.tally.marks);
 }
