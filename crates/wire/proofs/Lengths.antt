@@ -8,3 +8,5 @@ use Rattle.erasure.specs.Fragments.{fragment_size_def}
 pub fragment-few : (t n : ℕ) → fragment_size_def (shelf t).threshold n ≤ n + t
 unfolding fragment_size_def shelf
 fragment-few t n = omega (arith, div-le_self (n + (t + 1) - 1) (t + 1))
+
+pub ruleset few = (fragment-few)

@@ -29,18 +29,21 @@ pub const HELD: usize = STAMP + 1;
 
 pub const HELD_LENGTH: usize = HELD + LENGTH;
 
+#[tactic(auto, unfolding(cluster::specs::Config::shelf))]
 pub fn digests_size(t: u8) -> usize
     ensures { result ≡ digests_size_def (shelf t) }
 {
     DIGEST * cluster::servers(t)
 }
 
+#[tactic(auto, unfolding(cluster::specs::Config::shelf))]
 pub fn tags_size(t: u8) -> usize
     ensures { result ≡ tags_size_def (shelf t) }
 {
     hmac::TAG * cluster::servers(t)
 }
 
+#[tactic(auto, unfolding(cluster::specs::Config::shelf))]
 pub fn candidate_size(t: u8) -> usize
     ensures { result ≡ candidate_size_def (shelf t) }
 {
@@ -48,20 +51,22 @@ pub fn candidate_size(t: u8) -> usize
 }
 
 // Bytes of a fragment of a content of n bytes. Each t has its own divisor, which the compiler then knows.
+#[tactic(auto, unfolding(cluster::specs::Config::shelf, erasure::specs::Fragments::fragment_size_def))]
 pub fn fragment_size(t: u8, n: u32) -> usize
     ensures { result ≡ fragment_size_def (shelf t).threshold n }
 {
     let size = n as usize;
     match t {
-        1 => (size + 1) / 2,
-        2 => (size + 2) / 3,
-        3 => (size + 3) / 4,
-        4 => (size + 4) / 5,
-        _ => (size + (t as usize)) / ((t as usize) + 1),
+        1 => size.div_ceil(2),
+        2 => size.div_ceil(3),
+        3 => size.div_ceil(4),
+        4 => size.div_ceil(5),
+        _ => size.div_ceil(cluster::threshold(t)),
     }
 }
 
 // Bytes of a share of a content of n bytes.
+#[tactic(auto, using(crate::proofs::Lengths::few), unfolding(cluster::specs::Config::shelf, crate::specs::Places::share_size_def))]
 pub fn share_size(t: u8, n: u32) -> usize
     ensures { result ≡ share_size_def (shelf t) n }
 {
