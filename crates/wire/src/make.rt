@@ -1,9 +1,11 @@
 // Writing to a buffer, and making packets.
-ghost use Rattle.std.specs.Prelude.{◌≡◌, [], ◌∷◌, ◌+◌, ◌≤◌, length};
+ghost use Rattle.std.specs.Prelude.{◌≡◌, [], ◌∷◌};
+ghost use Rattle.cluster.specs.Refusals.{outcome_told};
 ghost use Rattle.format.specs.Format.{print2, print4};
 ghost use Rattle.protocol.specs.Packet.{head_f, stamp_f};
 ghost use Rattle.wire.specs.Make.{placed, packet_step};
-ghost use Rattle.format.specs.Reading.{Wrote};
+
+use cluster::Refusal;
 
 // Each put_ writes at a place, or nothing where there is no room, and answers the place past what it wrote.
 pub fn put(out: &mut [u8], at: usize, bytes: &[u8]) -> usize
@@ -56,30 +58,24 @@ pub fn put_head(out: &mut [u8], at: usize, head: protocol::Head) -> usize
     put_number4(out, a, head.call)
 }
 
-// A packet of a head and of a body in two runs: refused, or its bytes over the start of the buffer and their count.
-// Runs that a buffer for every packet has no room for are no packet's body: 255.
+// A packet of a head and of a body in two runs: its bytes over the start of the buffer, and their count.
+// Runs that a buffer for every packet has no room for are no packet's body.
 pub fn make_packet(
     head: protocol::Head,
     first: &[u8],
     second: &[u8],
     out: &mut [u8],
-) -> cluster::Outcome
-    ensures { record { result = result; output = out.new } ≡ packet_step head first.now second.now out.old }
+) -> Result<usize, Refusal>
+    ensures { record { result = outcome_told result; output = out.new } ≡ packet_step head first.now second.now out.old }
 {
     if out.len() < cluster::PACKET_ROOM {
-        return cluster::refused(cluster::refusals::ROOM);
+        return Err(Refusal::Room);
     }
-    if out.len() - crate::sizes::HEAD < first.len() {
-        return cluster::refused(cluster::WRONG_SIZE);
-    }
-    if out.len() - crate::sizes::HEAD - first.len() < second.len() {
-        return cluster::refused(cluster::WRONG_SIZE);
+    let room = out.len() - crate::sizes::HEAD;
+    if room < first.len() || room - first.len() < second.len() {
+        return Err(Refusal::WrongSize);
     }
     let a = put_head(out, 0, head);
     let b = put(out, a, first);
-    let n = put(out, b, second);
-    cluster::Outcome {
-        number: 0,
-        count: n,
-    }
+    Ok(put(out, b, second))
 }
