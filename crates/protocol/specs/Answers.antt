@@ -1,6 +1,9 @@
--- Answers in document 01's numbers ("Drill sheets"): for each case of an enum that code answers, its result and the values told with it.
+-- Answers in document 01's numbers ("Drill sheets"): for each case of what code answers, its result and the values told with it.
 -- The contracts, a drill's listing and the exported functions use these tables, and no other.
-use Rattle.std.specs.Prelude.{cond, List, ℕ, zero, suc, ◌+◌, ◌-◌, leb, eqb, take}
+use Rattle.std.specs.Prelude.{cond, List, ℕ, zero, suc, ◌+◌, ◌-◌, leb, eqb, take, Ok, Err}
+use Rattle.std.specs.declared.result.Result as answers
+use Rattle.cluster.specs.declared.Refusal.{Refusal}
+use Rattle.cluster.specs.Refusals.{refusal_number}
 use Rattle.protocol.specs.declared.Label.{Label}
 use Rattle.protocol.specs.declared.Answer.{Answer}
 use Rattle.protocol.specs.declared.Taken.{Taken}
@@ -21,19 +24,30 @@ refusals = 100
 abbrev pub label_in_def : Answer → Label
 label_in_def a = record { number = a.number; writer = a.writer }
 
--- a refusal, goes on, written, read, blank
+-- a refusal by its number
+abbrev pub refused_answer : ℕ → Answer
+refused_answer n = bare (refusals + n)
+
+-- goes on, written, read, blank
 abbrev pub taken_answer : Taken → Answer
-taken_answer (taken.Refused n) = bare (refusals + n)
 taken_answer taken.More = bare 0
 taken_answer (taken.Written k w) = record { result = 1; number = k; writer = w; length = 0 }
 taken_answer (taken.Read k w n) = record { result = 2; number = k; writer = w; length = n }
 taken_answer taken.Blank = bare 3
 
--- a refusal, given up before complete or in a read, given up in complete
+-- given up before complete or in a read, given up in complete
 abbrev pub aborted_answer : Aborted → Answer
-aborted_answer (aborts.Refused n) = bare (refusals + n)
 aborted_answer aborts.Before = bare 4
 aborted_answer aborts.InComplete = bare 5
+
+-- what code returns: one of these, or a refusal
+abbrev pub taken_told : answers.Result Taken Refusal → Answer
+taken_told (Ok a) = taken_answer a
+taken_told (Err why) = refused_answer (refusal_number why)
+
+abbrev pub aborted_told : answers.Result Aborted Refusal → Answer
+aborted_told (Ok a) = aborted_answer a
+aborted_told (Err why) = refused_answer (refusal_number why)
 
 -- ---- what an answer says of a step
 

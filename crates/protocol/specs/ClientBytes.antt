@@ -17,7 +17,7 @@ use Rattle.protocol.specs.Primitives.{Primitives}
 use Rattle.protocol.specs.Rules.{ByServer, count_to}
 use Rattle.protocol.specs.Client.{Client, Hand, idle, clocking, storing, completing, collecting, filtering, repairing, Result, refused, more, written, gave, gave_blank, aborted, Turn, awaits, candidate_in, held_in_def, write_step, read_step, abort_step, make_step, take_step}
 use Rattle.format.specs.Reading.{put, over}
-use Rattle.protocol.specs.Answers.{taken_answer, aborted_answer}
+use Rattle.protocol.specs.Answers.{refused_answer, taken_answer, aborted_answer}
 use Rattle.protocol.specs.View.{view, nonce_place, chosen_place, candidate_slot, candidates_place, replies_place, reply_slot}
 
 -- ---- what the operations give
@@ -133,7 +133,7 @@ pub record Told : Type 0 where
   pub content : List ℕ
 
 abbrev pub told : Result → Told
-told (refused n) = record { number = n; answer = taken_answer (taken.Refused n); content = [] }
+told (refused n) = record { number = n; answer = refused_answer n; content = [] }
 told more = record { number = 0; answer = taken_answer taken.More; content = [] }
 told (written k) = record { number = 0; answer = taken_answer (taken.Written k.number k.writer); content = [] }
 told (gave k r) = record { number = 0; answer = taken_answer (taken.Read k.number k.writer (length r)); content = r }

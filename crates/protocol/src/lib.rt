@@ -1,9 +1,12 @@
 // The protocol's definitions stand in specs/, their laws in proofs/. The structs here are the values that definitions and code share.
 #![tactic(auto)]
 
-ghost use Rattle.std.specs.Prelude.{◌≡◌, ◌≤◌, ◌+◌};
-ghost use Rattle.protocol.specs.Values.{blank_stamp, same_list, same_stamp, rank_by, below};
-ghost use Rattle.protocol.specs.Answers.{refusals, bare, taken_answer, aborted_answer};
+ghost use Rattle.std.specs.Prelude.{◌≡◌};
+ghost use Rattle.protocol.specs.Values.{blank_stamp, same_stamp, rank_by, below};
+ghost use Rattle.protocol.specs.Answers.{bare, refused_answer, taken_told, aborted_told};
+ghost use Rattle.cluster.specs.Refusals.{refusal_number};
+
+use cluster::Refusal;
 
 pub mod kinds; // kinds of packets
 pub mod rounds; // rounds of a call
@@ -128,57 +131,62 @@ fn bare(res: u16) -> Answer
     }
 }
 
-// What a taken reply gives: a refusal, nothing yet, number and writer of the stamp written, those of the stamp read with the content's length,
-// or blank.
+impl From<Refusal> for Answer {
+    ghost from_gives = { λ why a. a ≡ refused_answer (refusal_number why) };
+
+    fn from(why: Refusal) -> Answer {
+        bare(REFUSALS + u16::from(why.number()))
+    }
+}
+
+// What a taken reply gives: nothing yet, number and writer of the stamp written, those of the stamp read with the content's length, or blank.
 #[derive(Clone, Copy)]
 pub enum Taken {
-    Refused(u8),
     More,
     Written(u32, u8),
     Read(u32, u8, u16),
     Blank,
 }
 
-impl Taken {
-    pub fn answer(self) -> Answer
-        ensures { (result ≡ taken_answer self) × (result.result ≤ refusals + 255) }
-    {
-        match self {
-            Taken::Refused(n) => bare(REFUSALS + n as u16),
-            Taken::More => bare(0),
-            Taken::Written(k, w) => Answer {
+impl From<Result<Taken, Refusal>> for Answer {
+    ghost from_gives = { λ told a. a ≡ taken_told told };
+
+    fn from(told: Result<Taken, Refusal>) -> Answer {
+        match told {
+            Err(why) => Answer::from(why),
+            Ok(Taken::More) => bare(0),
+            Ok(Taken::Written(number, writer)) => Answer {
                 result: 1,
-                number: k,
-                writer: w,
+                number,
+                writer,
                 length: 0,
             },
-            Taken::Read(k, w, n) => Answer {
+            Ok(Taken::Read(number, writer, length)) => Answer {
                 result: 2,
-                number: k,
-                writer: w,
-                length: n,
+                number,
+                writer,
+                length,
             },
-            Taken::Blank => bare(3),
+            Ok(Taken::Blank) => bare(3),
         }
     }
 }
 
-// What giving up answers: a refusal, or whether the complete round had begun.
+// What giving up answers: whether the complete round had begun.
 #[derive(Clone, Copy)]
 pub enum Aborted {
-    Refused(u8),
     Before,
     InComplete,
 }
 
-impl Aborted {
-    pub fn answer(self) -> Answer
-        ensures { (result ≡ aborted_answer self) × (result.result ≤ refusals + 255) }
-    {
-        match self {
-            Aborted::Refused(n) => bare(REFUSALS + n as u16),
-            Aborted::Before => bare(4),
-            Aborted::InComplete => bare(5),
+impl From<Result<Aborted, Refusal>> for Answer {
+    ghost from_gives = { λ told a. a ≡ aborted_told told };
+
+    fn from(told: Result<Aborted, Refusal>) -> Answer {
+        match told {
+            Err(why) => Answer::from(why),
+            Ok(Aborted::Before) => bare(4),
+            Ok(Aborted::InComplete) => bare(5),
         }
     }
 }
