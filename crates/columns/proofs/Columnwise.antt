@@ -1,60 +1,46 @@
 -- Columns are read one after another: the numbers of a line are those of its columns, each at its place.
 -- By induction on the columns. Assumes nothing.
-use mathlib.Core.Path.{◌≡◌, refl, ap, sym, ◌∙◌}
-use mathlib.Core.Bool.{true, false}
-use mathlib.Core.List.{List, [], ◌∷◌}
-use mathlib.Core.Option.{Option, none, some}
-use Prim.Native.Nat.{ℕ, zero, suc, ◌+◌, ◌-◌, ◌*◌, ◌/◌, ◌%◌, ◌≤◌, ◌<◌}
-use native.Mathlib.Omega.{arith}
+use Rattle.std.proofs.Common.{◌≡◌, ℕ, zero, suc, ◌+◌, ◌-◌, ◌*◌, ◌/◌, ◌%◌, ◌≤◌, ◌<◌, List, [], ◌∷◌, length, get_or, take, drop, refl, sym, ap, ◌∙◌, arith, length-drop}
+use Rattle.std.proofs.Math.Option.{Option, none, some}
+use Rattle.std.proofs.Math.Seq.{drop-drop}
 use native.Mathlib.Nat.{div-add-mod', mod-lt}
-use borrow.Author.Count.{below_more}
 use borrow.Author.Tests.{eq-eqb, ne_eqb, lt-ltb, le-ltb}
-use lib.ListN.{length, get_or, take, drop, set, length-set, length-drop}
-use lib.Seq.{drop-drop, ext_get_or, get_or-set_same, get_or-set_other}
 use Rattle.columns.specs.Lines.{line_length, line_end_def, line_at}
 use Rattle.columns.specs.Columns.{column_size, on_some, column, numbers_in, read_columns_def, read_text}
-use Rattle.columns.specs.Reads.{is_read, or_zero, read_into, Fills}
 
--- ---- whether all columns hold numbers
-
--- column j, and the columns from it on
+-- column j
 abbrev pub column_in : List ℕ → ℕ → Option ℕ
 column_in b j = column (take column_size (drop (column_size * j) b))
 
-abbrev pub left : ℕ → List ℕ → ℕ → Option (List ℕ)
-left n b j = numbers_in (n - j) (drop (column_size * j) b)
+column-later : (b : List ℕ) (j : ℕ) → column_in (drop column_size b) j ≡ column_in b (suc j)
+column-later b j =
+    let e : column_size + column_size * j ≡ column_size * suc j = omega arith in
+    ap (λ (z : List ℕ). column (take column_size z)) (drop-drop (column_size * j) column_size b ∙ ap (λ (m : ℕ). drop m b) e)
 
-one_then : Option ℕ → Option (List ℕ) → Option (List ℕ)
-one_then o m = on_some o (λ v. on_some m (λ vs. some (v ∷ vs)))
-
-module _ (n : ℕ) (b : List ℕ) (j : ℕ) (h : j < n) where
-  left_is : left n b j ≡ one_then (column_in b j) (left n b (j + 1))
-  unfolding numbers_in one_then
-  left_is =
-      let e : n - j ≡ suc (n - (j + 1)) = omega arith in
-      let k : column_size * j + column_size ≡ column_size * (j + 1) = omega arith in
-      rw (e, drop-drop column_size (column_size * j) b, k)
-
-  pub left_more : is_read (column_in b j) ≡ true → is_read (left n b j) ≡ is_read (left n b (j + 1))
-  unfolding one_then
-  left_more e = ap is_read left_is ∙ go (column_in b j) (left n b (j + 1)) e
-    where
-      go : (o : Option ℕ) (m : Option (List ℕ)) → is_read o ≡ true → is_read (one_then o m) ≡ is_read m
-      go none m q = let z : ◌≡◌ {A = ℕ} 0 1 = cc in absurd (omega arith)
-      go (some v) none q = refl
-      go (some v) (some vs) q = refl
-
-  pub left_stops : is_read (column_in b j) ≡ false → is_read (left n b j) ≡ false
-  unfolding one_then
-  left_stops e = ap is_read left_is ∙ go (column_in b j) (left n b (j + 1)) e
-    where
-      go : (o : Option ℕ) (m : Option (List ℕ)) → is_read o ≡ false → is_read (one_then o m) ≡ false
-      go none m q = refl
-      go (some v) m q = let z : ◌≡◌ {A = ℕ} 0 1 = cc in absurd (omega arith)
-
-pub left_none : (n : ℕ) (b : List ℕ) (j : ℕ) → n ≤ j → is_read (left n b j) ≡ true
+-- all columns hold numbers
+pub numbers-all : (n : ℕ) (b vs : List ℕ) → length vs ≡ n → ((k : ℕ) → k < n → column_in b k ≡ some (get_or vs k 0)) → numbers_in n b ≡ some vs
 unfolding numbers_in
-left_none n b j h = let e : n - j ≡ 0 = omega arith in rw e
+numbers-all zero b [] e h = refl
+numbers-all zero b (v ∷ vs) e h = absurd (omega arith)
+numbers-all (suc n) b [] e h = absurd (omega arith)
+numbers-all (suc n) b (v ∷ vs) e h =
+    let first : column (take column_size b) ≡ some v = h 0 (omega arith) in
+    let rest : numbers_in n (drop column_size b) ≡ some vs =
+    numbers-all n (drop column_size b) vs (omega arith) (λ k l. column-later b k ∙ h (suc k) (omega arith)) in
+    rw (first, rest)
+
+-- one does not
+pub numbers-none : (n j : ℕ) (b : List ℕ) → j < n → column_in b j ≡ none → numbers_in n b ≡ none
+unfolding numbers_in
+numbers-none zero j b l e = absurd (omega arith)
+numbers-none (suc n) zero b l e = let first : column (take column_size b) ≡ none = e in rw first
+numbers-none (suc n) (suc j) b l e =
+    let rest : numbers_in n (drop column_size b) ≡ none = numbers-none n j (drop column_size b) (omega arith) (column-later b j ∙ e) in
+    rw rest (go (column (take column_size b)))
+  where
+    go : (o : Option ℕ) → on_some {B = List ℕ} o (λ v. none) ≡ none
+    go none = refl
+    go (some v) = refl
 
 -- ---- the numbers of columns that were read
 
@@ -82,72 +68,16 @@ numbers-length (suc n) b vs e =
     let f = first_of n b vs e in
     ap length f.whole ∙ ap suc (numbers-length n (drop column_size b) f.rest f.tail)
 
-pub numbers-each : (n : ℕ) (b vs : List ℕ) → numbers_in n b ≡ some vs → (k : ℕ) → k < n → column_in b k ≡ some (get_or vs k 0)
-numbers-each zero b vs e k h = absurd (omega arith)
-numbers-each (suc n) b vs e zero h = let f = first_of n b vs e in f.head ∙ ap (λ (z : List ℕ). some (get_or z 0 0)) (sym f.whole)
-numbers-each (suc n) b vs e (suc k) h =
-    let f = first_of n b vs e in
-    let i : column_size + column_size * k ≡ column_size * suc k = omega arith in
-    let d : drop (column_size * k) (drop column_size b) ≡ drop (column_size * suc k) b =
-    drop-drop (column_size * k) column_size b ∙ ap (λ (m : ℕ). drop m b) i in
-    ap (λ (z : List ℕ). column (take column_size z)) (sym d) ∙ numbers-each n (drop column_size b) f.rest f.tail k (omega arith)
-    ∙ ap (λ (z : List ℕ). some (get_or z (suc k) 0)) (sym f.whole)
-
--- ---- values filled column by column
-
--- the first j values are those of their columns
-pub record Filling (text old new : List ℕ) (j : ℕ) : Type 0 where
-  pub size : length new ≡ length old
-  pub each : (k : ℕ) → k < j → get_or new k 0 ≡ or_zero (column_in text k)
-
-pub filling_none : (text old : List ℕ) → Filling text old old 0
-filling_none text old = record { size = refl; each = λ k h. absurd (omega arith) }
-
-module _ (text old new : List ℕ) (j : ℕ) (f : Filling text old new j) where
-  pub filling_more : (v : ℕ) → j < length old → v ≡ or_zero (column_in text j) → Filling text old (set new j v) (j + 1)
-  filling_more v h e =
-      record {
-        size = length-set new j v ∙ f.size;
-        each =
-            below_more (λ (k : ℕ). get_or (set new j v) k 0 ≡ or_zero (column_in text k)) j
-            (λ k b. get_or-set_other new j k v 0 (λ q. omega arith) ∙ f.each k b)
-            (get_or-set_same new j v 0 (omega (arith, f.size)) ∙ e);
-      }
-
-  pub filling_all : length old ≤ j → Fills text old new
-  filling_all h =
-      record {
-        filled =
-            λ vs e. let n = numbers-length (length old) text vs e in
-            ext_get_or 0 new vs (f.size ∙ sym n)
-            (λ i b. f.each i (omega (arith, f.size)) ∙ ap or_zero (numbers-each (length old) text vs e i (omega (arith, f.size))));
-      }
-
 -- ---- the whole line
 
-module _ (n : ℕ) (b old : List ℕ) where
-  pub other_length : (length b ≡ column_size * n → ⊥) → record { read = false; values = old } ≡ read_into (read_columns_def n b) old
+module _ (n : ℕ) (b : List ℕ) where
+  pub other_length : (length b ≡ column_size * n → ⊥) → none ≡ read_columns_def n b
   unfolding read_columns_def
   other_length h = rw (ne_eqb (length b) (column_size * n) h)
 
-  module _ (h : length b ≡ column_size * n) where
-    pub not_read : is_read (numbers_in n b) ≡ false → record { read = false; values = old } ≡ read_into (read_columns_def n b) old
-    unfolding read_columns_def
-    not_read e = rw (eq-eqb (length b) (column_size * n) h) (go (numbers_in n b) e)
-      where
-        go : (o : Option (List ℕ)) → is_read o ≡ false → record { read = false; values = old } ≡ read_into o old
-        go none q = refl
-        go (some vs) q = let z : ◌≡◌ {A = ℕ} 0 1 = cc in absurd (omega arith)
-
-    pub all_read : {new : List ℕ} → is_read (numbers_in n b) ≡ true → ((vs : List ℕ) → numbers_in n b ≡ some vs → new ≡ vs)
-        → record { read = true; values = new } ≡ read_into (read_columns_def n b) old
-    unfolding read_columns_def
-    all_read {new} e f = rw (eq-eqb (length b) (column_size * n) h) (go (numbers_in n b) e f)
-      where
-        go : (o : Option (List ℕ)) → is_read o ≡ true → ((vs : List ℕ) → o ≡ some vs → new ≡ vs)
-            → record { read = true; values = new } ≡ read_into o old
-        go none q g = let z : ◌≡◌ {A = ℕ} 0 1 = cc in absurd (omega arith)
-        go (some vs) q g = rw (g vs refl)
+  pub same_length : length b ≡ column_size * n → read_columns_def n b ≡ numbers_in n b
+  unfolding read_columns_def
+  same_length h = rw (eq-eqb (length b) (column_size * n) h)
 
 -- by division: the bytes of n columns
 pub ragged : (x n : ℕ) → (x % 8 ≡ 0 → ⊥) → x ≡ column_size * n → ⊥

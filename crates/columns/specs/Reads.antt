@@ -1,37 +1,12 @@
 -- What the functions on columns answer. A line that is not read has no number here: who reads it gives its own refusal (17 in a drill).
-use Rattle.std.specs.Prelude.{◌≡◌, Bool, true, false, cond, List, ◌++◌, ℕ, ◌+◌, ◌*◌, ltb, length, take, drop}
-use Rattle.std.proofs.Math.Option.{Option, none, some}
-use Rattle.columns.specs.declared.reading.Number.{Number}
-use Rattle.columns.specs.declared.reading.Number.TheVariants as variants
-use Rattle.columns.specs.Columns.{column_size, row, numbers_in}
+use Rattle.std.specs.Prelude.{cond, List, ◌++◌, ℕ, ◌+◌, ◌*◌, ltb, length, take, drop, Option, Some, None}
+use Rattle.std.proofs.Math.Option as maybe
+use Rattle.columns.specs.Columns.{column_size, row}
 
--- the number of a column, or no number
-abbrev pub number_read : Number → Option ℕ
-number_read (variants.Value v) = some v
-number_read variants.Broken = none
-
--- what private functions promise each other: whether a number was read, and its value; 0 where none was
-abbrev pub is_read : {A : Type 0} → Option A → Bool
-is_read none = false
-is_read (some a) = true
-
-abbrev pub or_zero : Option ℕ → ℕ
-or_zero none = 0
-or_zero (some v) = v
-
--- n values for n columns that all hold a number
-pub record Fills (text old new : List ℕ) : Type 0 where
-  pub filled : (vs : List ℕ) → numbers_in (length old) text ≡ some vs → new ≡ vs
-
--- whether a line was read, and the values that the caller lent
-pub record LineRead : Type 0 where
-  pub read : Bool
-  pub values : List ℕ
-
--- its numbers; where it is not read, nothing changes
-abbrev pub read_into : Option (List ℕ) → List ℕ → LineRead
-read_into (some vs) old = record { read = true; values = vs }
-read_into none old = record { read = false; values = old }
+-- what was read, in the definitions' words
+abbrev pub told : {A : Type 0} → Option A → maybe.Option A
+told None = maybe.none
+told (Some a) = maybe.some a
 
 -- the place past what was printed, and the output
 pub record RowPrinted : Type 0 where

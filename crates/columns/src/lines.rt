@@ -2,20 +2,17 @@
 ghost use Rattle.std.specs.Prelude.{◌≡◌, ◌+◌, length};
 ghost use Rattle.columns.specs.Lines.{lines, line_end_def, next_at};
 
-pub(crate) const NEWLINE: u8 = 10;
+pub(crate) const NEWLINE: u8 = b'\n';
 
 // The place of the 0Ah that ends the line, or the end of the text.
 pub(crate) fn line_end(text: &[u8], at: usize) -> usize
     ensures { result ≡ line_end_def text.now at }
 {
-    let mut i = at;
-    while i < text.len() {
-        if text[i] == NEWLINE {
-            return i;
-        }
-        i += 1;
-    }
-    i
+    let rest = &text[at.min(text.len())..];
+    at + rest
+        .iter()
+        .position(|b| *b == NEWLINE)
+        .unwrap_or(rest.len())
 }
 
 // The place of the line after the one at a place.
@@ -24,9 +21,10 @@ pub fn next_line(text: &[u8], at: usize) -> usize
 {
     let end = line_end(text, at);
     if end < text.len() {
-        return end + 1;
+        end + 1
+    } else {
+        text.len()
     }
-    text.len()
 }
 
 pub fn count_lines(text: &[u8]) -> usize
