@@ -25,8 +25,8 @@ pub fn mul(a: u8, b: u8) -> u8
     ensures { result ≡ times a b }
 {
     let mut out = 0u8;
-    for n in 0..8u32 {
-        out = double(out) ^ (a & mask(b >> (7 - n)));
+    for n in (0..8u32).rev() {
+        out = double(out) ^ (a & mask(b >> n));
     }
     out
 }

@@ -1,4 +1,4 @@
-use Rattle.std.proofs.Common.{◌≡◌, ℕ, ◌+◌, ◌-◌, ◌/◌, ◌%◌, ◌^◌, bit_and, bit_xor, refl, sym, ap, ap₂, subst, ◌∙◌, arith}
+use Rattle.std.proofs.Common.{◌≡◌, ℕ, ◌+◌, ◌-◌, ◌/◌, ◌%◌, ◌^◌, bit_and, bit_xor, refl, sym, ap, ap₂, ◌∙◌, arith}
 use Rattle.gf256.specs.Gf.{xtime, times_bits, times}
 use native.Mathlib.Nat.{div-one}
 use Rattle.gf256.proofs.Xor.{bit}
@@ -12,19 +12,18 @@ loop-n-init c = refl
 pub loop-n-preserved : goal.loop-n-preserved
 loop-n-preserved c =
     let l = c.loop-n in
-    let i : ℕ = 7 - l.n in
-    let up : i + 1 ≡ 8 - l.n = omega arith in
-    let down : i ≡ 8 - (l.n + 1) = omega arith in
+    let i : ℕ = l.n - 1 in
+    let up : i + 1 ≡ l.n = omega arith in
+    let more : 8 - l.n + 1 ≡ 8 - i = omega arith in
     let x = c.args.a in
     let w = c.args.b in
-    ap₂ bit_xor (c.double.ensures ∙ ap xtime (l.invariant ∙ ap (λ (m : ℕ). times_bits l.n x (w / 2 ^ m)) (sym up)))
+    ap₂ bit_xor (c.double.ensures ∙ ap xtime (l.invariant ∙ ap (λ (m : ℕ). times_bits (8 - l.n) x (w / 2 ^ m)) (sym up)))
     (ap (bit_and x) c.mask.ensures ∙ masked (w / 2 ^ i % 2) x (bit (w / 2 ^ i)) (omega arith))
-    ∙ bit_more l.n x w i (omega arith)
-    ∙ ap (λ (m : ℕ). times_bits (l.n + 1) x (w / 2 ^ m)) down
+    ∙ bit_more (8 - l.n) x w i (omega arith)
+    ∙ ap (λ (m : ℕ). times_bits m x (w / 2 ^ i)) more
 
 pub returns : goal.returns
 unfolding times
 returns c =
-    let l = c.loop-n in
-    let e : l.n ≡ 8 = omega arith in
-    subst (λ (n : ℕ). l.out ≡ times_bits n c.args.a (c.args.b / 2 ^ (8 - n))) e l.invariant ∙ ap (times_bits 8 c.args.a) (div-one c.args.b)
+    let e : c.loop-n.n ≡ 0 = omega arith in
+    (rw e at c.loop-n.invariant) ∙ ap (times_bits 8 c.args.a) (div-one c.args.b)
