@@ -6,7 +6,7 @@ use Rattle.erasure.proofs.choice.add_server.Goals as goal
 use Rattle.erasure.proofs.choice.add_server.Goals.{else-c-k-via-then-c-k+else-not-contains, else-c-k-via-else-c-k}
 
 fresh : (c : goal.Then-not-contains) → among c.args.s (take c.args.c.count c.args.c.servers) ≡ false
-fresh c = sym (any-among _ _) ∙ sym c.contains.ensures.value ∙ c.if-not-contains.true
+fresh c = sym (any-among c.args.s (take c.args.c.count c.args.c.servers)) ∙ sym c.contains.ensures.value ∙ c.if-not-contains.true
 
 pub returns-then-not-contains-clause-places : goal.returns-then-not-contains-clause-places
 returns-then-not-contains-clause-places c = more_joins c.args.c.count c.args.k _ c.args.c.at c.args.i c.if-c-k.true (fresh c) (search rules)
