@@ -17,10 +17,8 @@ fn powers_row(x: u8, k: usize) -> [u8; SYSTEM_ROW]
 {
     let mut out = [0u8; SYSTEM_ROW];
     out[0] = 1;
-    let mut c: usize = 1;
-    while c < k {
+    for c in 1..k {
         out[c] = gf256::mul(out[c - 1], x);
-        c += 1;
     }
     out
 }
