@@ -28,10 +28,8 @@ fn add_row(sum: [u8; SYSTEM_ROW], row: [u8; SYSTEM_ROW], w: u8) -> [u8; SYSTEM_R
     ensures { (c : ℕ) → c < system_row → get_or result c 0 ≡ bit_xor (get_or sum c 0) (times w (get_or row c 0)) }
 {
     let mut out = [0u8; SYSTEM_ROW];
-    let mut c: usize = 0;
-    while c < SYSTEM_ROW {
+    for c in 0..SYSTEM_ROW {
         out[c] = sum[c] ^ gf256::mul(row[c], w);
-        c += 1;
     }
     out
 }
