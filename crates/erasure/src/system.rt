@@ -61,10 +61,8 @@ fn begin(xs: [u8; WIDTH], k: usize) -> [[u8; SYSTEM_ROW]; WIDTH]
     ensures { (i c : ℕ) → i < k → c < k → entry result i c ≡ power (get_or xs i 0) c }
 {
     let mut a = [[0u8; SYSTEM_ROW]; WIDTH];
-    let mut r: usize = 0;
-    while r < k {
+    for r in 0..k {
         a[r] = powers_row(xs[r], k);
-        r += 1;
     }
     a
 }
