@@ -76,10 +76,8 @@ fn turn(a: [[u8; SYSTEM_ROW]; WIDTH], p: usize, k: usize) -> [[u8; SYSTEM_ROW]; 
     let d = gf256::inverse(pivot[p]);
     let mut out = a;
     out[p] = unit_row(p);
-    let mut r: usize = 0;
-    while r < k {
+    for r in 0..k {
         out[r] = turn_row(out[r], pivot, d, p);
-        r += 1;
     }
     out
 }
