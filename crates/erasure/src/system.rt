@@ -88,11 +88,10 @@ pub(crate) fn solve(xs: [u8; WIDTH], k: usize) -> [[u8; SYSTEM_ROW]; WIDTH]
     ensures { Solves k xs result }
 {
     let mut a = begin(xs, k);
-    let mut p: usize = 0;
-    while p < k {
+    for p in 0..k {
+        // in two steps: no proof is made of a call whose result is laid in an array that stands
         let b = turn(a, p, k);
         a = b;
-        p += 1;
     }
     a
 }
