@@ -102,11 +102,10 @@ fn sum_rows(a: [[u8; SYSTEM_ROW]; WIDTH], powers: [u8; SYSTEM_ROW], k: usize) ->
     ensures { (j : ℕ) → j < system_row → get_or result j 0 ≡ sum_to k (λ c. times (get_or powers c 0) (entry a c j)) }
 {
     let mut sum = a[0];
-    let mut c: usize = 1;
-    while c < k {
+    for c in 1..k {
+        // in two steps: no proof is made of a call whose result is laid in an array that stands
         let more = add_row(sum, a[c], powers[c]);
         sum = more;
-        c += 1;
     }
     sum
 }
