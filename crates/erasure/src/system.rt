@@ -117,10 +117,6 @@ pub(crate) fn weights(a: [[u8; SYSTEM_ROW]; WIDTH], k: usize, z: u8) -> [u8; WID
 {
     let sum = sum_rows(a, powers_row(z, k), k);
     let mut out = [0u8; WIDTH];
-    let mut j: usize = 0;
-    while j < WIDTH {
-        out[j] = sum[j];
-        j += 1;
-    }
+    out.copy_from_slice(&sum[..WIDTH]);
     out
 }
