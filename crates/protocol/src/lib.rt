@@ -64,7 +64,7 @@ impl Stamp {
         256 * u64::from(number) + u64::from(writer)
     }
 
-    // Order is by number, then writer.
+    // Order is by number, then writer. Not PartialOrd, whose order would have to tell tags apart.
     pub fn below(self, other: Stamp) -> bool
         ensures { result ≡ below self other }
     {

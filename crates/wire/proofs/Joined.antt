@@ -2,22 +2,18 @@
 -- So a loop that joins all bytes, or all differences, ends with the answer of the definition that goes byte by byte.
 -- Assumes nothing.
 use mathlib.Core.Path.{◌≡◌, refl, sym, ap, ◌∙◌}
-use mathlib.Core.Bool.{Bool, true, false, ◌&&◌, and-false, and_assoc}
+use mathlib.Core.Bool.{Bool, true, false, ◌&&◌, and-true, and-false, and_assoc}
 use mathlib.Core.List.{List, [], ◌∷◌, ◌++◌}
-use Prim.Native.Nat.{ℕ, zero, suc, ◌+◌, ◌≤◌, ◌<◌}
+use Prim.Native.Nat.{ℕ, zero, suc, ◌+◌, ◌<◌}
 use native.Mathlib.Omega.{arith}
 use native.Mathlib.Numerals.{add-one}
 use lib.Bits.{bit_or, bit_xor, or_zero_l, or_add_and, and_le_l, and_le_r, xor_self, xor_add_and}
 use lib.Dec.{eqb}
-use lib.ListN.{length, get_or, take, drop, drop_of_length-le, take-append-drop}
+use lib.ListN.{length, get_or, take, drop, take-append-drop}
 use lib.Seq.{drop-cons}
 use borrow.Author.Tests.{eq-eqb, ne_eqb, eqb-true, eqb-false}
 use Rattle.format.specs.Format.{zeros}
 use Rattle.protocol.specs.Values.{same_list}
-
-and-true : (p : Bool) → p && true ≡ p
-and-true true = refl
-and-true false = refl
 
 or-eqb : (a b : ℕ) → eqb (bit_or a b) 0 ≡ eqb a 0 && eqb b 0
 or-eqb zero b = ap (λ (x : ℕ). eqb x 0) (or_zero_l b)
@@ -36,9 +32,6 @@ module _ (s : List ℕ) (i : ℕ) where
   pub zeros_more : (all : ℕ) → i < length s → eqb all 0 && zeros (drop i s) ≡ eqb (bit_or all (get_or s i 0)) 0 && zeros (drop (i + 1) s)
   zeros_more all h =
       rw (add-one, drop-cons s i 0 h, or-eqb all (get_or s i 0)) (sym (and_assoc (eqb all 0) (eqb (get_or s i 0) 0) (zeros (drop (suc i) s))))
-
-  pub zeros-end : (all : ℕ) → length s ≤ i → eqb all 0 && zeros (drop i s) ≡ eqb all 0
-  zeros-end all h = rw (drop_of_length-le s h) (and-true (eqb all 0))
 
 -- ---- chunk by chunk
 

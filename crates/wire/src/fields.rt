@@ -39,7 +39,7 @@ pub(crate) fn number2_field(s: &[u8], c: Cursor, lo: u32, hi: u32) -> Option<(u3
     ranged(number2(b), lo, hi, c.at + crate::sizes::LENGTH)
 }
 
-// A number of 4 bytes, from lo to hi.
+// A number of 4 bytes, from lo to hi. Not one function with number2_field: their formats are two definitions, number2_l and number4_l.
 pub(crate) fn number4_field(s: &[u8], c: Cursor, lo: u32, hi: u32) -> Option<(u32, Cursor)>
     ensures { FieldAs (number4_l lo hi) s.now c.at result }
 {

@@ -31,6 +31,7 @@ pub fn put_number2(out: &mut [u8], at: usize, v: u16) -> usize
     put(out, at, &v.to_be_bytes())
 }
 
+// Not one function with put_number2: their bytes are two definitions, print2 and print4.
 pub fn put_number4(out: &mut [u8], at: usize, v: u32) -> usize
     ensures { record { next = result; output = out.new } ≡ placed out.old at (print4 v) }
 {

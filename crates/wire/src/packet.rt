@@ -84,6 +84,7 @@ pub fn read_packet(packet: &[u8]) -> Option<Passed>
 }
 
 // The fragment in a share, as that part of the share.
+#[tactic(auto, unfolding(protocol::specs::View::share_at, protocol::specs::View::share_of_size))]
 pub fn share_fragment(share: &[u8], t: u8) -> &[u8]
     ensures { result.now ≡ (share_at (shelf t) share.now).fragment }
 {

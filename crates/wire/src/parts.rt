@@ -80,7 +80,7 @@ pub(crate) fn candidate_field(s: &[u8], c: Cursor, t: u8) -> Option<(protocol::L
     Some((label, 0, c3))
 }
 
-// A candidate that may be blank, which is then all zero.
+// A candidate that may be blank, which is then all zero. Not one function with any_stamp_field: its contract would have to name both formats.
 pub fn any_candidate_field(s: &[u8], c: Cursor, t: u8) -> Option<(protocol::Label, u32, Cursor)>
     ensures { LabelledAs (any_candidate_l (shelf t)) s.now c.at result }
 {
