@@ -1,11 +1,15 @@
 -- The test of the arguments: which of them are refused, and what is known of the others. Nothing is assumed.
-use mathlib.Core.Path.{◌≡◌, sym, ap, subst, ◌∙◌}
-use mathlib.Core.Bool.{Bool, false, ◌&&◌, and-false, not, true}
+use mathlib.Core.Path.{◌≡◌, refl, sym, subst, ◌∙◌}
+use mathlib.Core.Bool.{Bool, false, not, true}
 use mathlib.Core.List.{List}
-use Prim.Native.Nat.{ℕ, ◌≤◌, ◌<◌}
-use lib.Dec.{T, leb, ltb, eqb}
+use Prim.Native.Nat.{ℕ, ◌≤◌}
+use lib.Dec.{T, ltb, eqb}
 use lib.ListN.{length}
-use borrow.Author.Tests.{le-leb, lt-leb, eqb-true, ltb-false, not-false}
+use borrow.Author.Tests.{eqb-true, ltb-false, not-false}
+use mathlib.Core.Logic.{◌≢◌}
+use Rattle.cluster.specs.declared.Refusal.{Refusal}
+use Rattle.cluster.specs.declared.Refusal.TheVariants as refusals
+use Rattle.cluster.specs.Refusals.{refusal_number}
 use Rattle.protocol.specs.View.{kept_size}
 use Rattle.decide.specs.Listing.{usable}
 use Rattle.decide.specs.Decided.{decide_refusal_def}
@@ -14,6 +18,30 @@ use Rattle.cluster.specs.Ranges.{within, top_faults, most_servers, content_room}
 use Rattle.cluster.proofs.Tests.{inside, passes}
 use Rattle.cluster.specs.Config.{shelf}
 use native.Mathlib.Omega.{arith}
+
+-- a test has one answer
+pub one_answer : {A : Type 0} {b : Bool} → b ≡ true → b ≡ false → A
+one_answer e k = absurd (subst T (sym e ∙ k) tt)
+
+-- no refusal has the number 0
+pub refusal_some : (r : Refusal) → refusal_number r ≢ 0
+refusal_some refusals.MemorySize e = absurd (omega arith)
+refusal_some refusals.Memory e = absurd (omega arith)
+refusal_some refusals.Faults e = absurd (omega arith)
+refusal_some refusals.Server e = absurd (omega arith)
+refusal_some refusals.Client e = absurd (omega arith)
+refusal_some refusals.Length e = absurd (omega arith)
+refusal_some refusals.Layout e = absurd (omega arith)
+refusal_some refusals.Addressee e = absurd (omega arith)
+refusal_some refusals.Sender e = absurd (omega arith)
+refusal_some refusals.Reply e = absurd (omega arith)
+refusal_some refusals.Hand e = absurd (omega arith)
+refusal_some refusals.Numbers e = absurd (omega arith)
+refusal_some refusals.Room e = absurd (omega arith)
+refusal_some refusals.Fragments e = absurd (omega arith)
+refusal_some refusals.Line e = absurd (omega arith)
+refusal_some refusals.Stores e = absurd (omega arith)
+refusal_some refusals.WrongSize e = absurd (omega arith)
 
 -- the shelf has no more servers than there are slots
 pub few : {t : ℕ} {kept : List ℕ} → Usable t kept → (shelf t).servers ≤ most_servers
@@ -42,18 +70,12 @@ allowed t kept room e =
     (record { low = r.0; high = r.1; size = eqb-true (length kept) kept_size (not-false _ p₁.0) }, ltb-false room content_room p₃.0)
 
 module _ (t : ℕ) (kept : List ℕ) where
-  refused : usable t kept ≡ false → UsableAs t kept false
-  refused e = record { same = sym e; told = λ k. absurd (subst T (sym k) tt) }
-
-  pub few-faults : t < 1 → UsableAs t kept false
+  pub faults_out : within 1 top_faults t ≡ false → UsableAs t kept false
   unfolding usable
-  few-faults h = refused (rw (lt-leb 1 t h))
+  faults_out h = record { same = rw h refl; told = λ k. absurd (subst T (sym k) tt) }
 
-  pub many-faults : top_faults < t → UsableAs t kept false
+  pub faults_in : within 1 top_faults t ≡ true → UsableAs t kept (eqb (length kept) kept_size)
   unfolding usable
-  many-faults h = refused (rw (lt-leb t top_faults h) (ap (λ (b : Bool). b && eqb (length kept) kept_size) (and-false (leb 1 t))))
-
-  pub by_size : 1 ≤ t → t ≤ top_faults → UsableAs t kept (eqb (length kept) kept_size)
-  unfolding usable
-  by_size l h =
-      record { same = rw (le-leb 1 t l, le-leb t top_faults h); told = λ k. record { low = l; high = h; size = eqb-true (length kept) kept_size k } }
+  faults_in h =
+      let r = inside 1 top_faults t (rw h refl) in
+      record { same = rw h refl; told = λ k. record { low = r.0; high = r.1; size = eqb-true (length kept) kept_size k } }

@@ -5,37 +5,22 @@ use mathlib.Core.List.{List, [], ◌∷◌, ◌++◌, append-nil}
 use Prim.Native.Nat.{ℕ, zero, suc, ◌+◌, ◌-◌, ◌*◌, ◌≤◌, ◌<◌}
 use native.Mathlib.Numerals.{add-one}
 use native.Mathlib.Omega.{arith}
-use lib.Dec.{ltb, eqb}
+use lib.Dec.{ltb}
 use lib.ListN.{length, take, set, length-append, length-take}
-use lib.Seq.{take-length, take-set-le, take-suc-set, take-append-le}
+use lib.Seq.{take-length, take-suc-set, take-append-le}
 use borrow.Author.Tests.{ltb-true, ltb-false}
 use Rattle.cluster.specs.Config.{shelf, quorum}
 use Rattle.protocol.specs.Rules.{ByServer, count_to}
-use Rattle.decide.specs.Steps.{bit, servers_of_def}
+use Rattle.decide.specs.Steps.{servers_of_def}
 
-pub bit_le : (b : Bool) → bit b ≤ 1
-bit_le true = omega arith
-bit_le false = omega arith
-
-pub bit_one : (b : Bool) → eqb (bit b) 1 ≡ b
-bit_one true = refl
-bit_one false = refl
-
-pub bit_some : (b : Bool) → bit b ≡ 0 → b ≡ false
-bit_some true e = absurd (omega arith)
-bit_some false e = refl
-
-pub bit_here : (b : Bool) → (bit b ≡ 0 → ⊥) → b ≡ true
-bit_here true h = refl
-bit_here false h = absurd (h refl)
-
-pub count_more : (n : ℕ) (m : ByServer Bool) → count_to (n + 1) m ≡ count_to n m + bit (m (suc n))
+-- one server more, of which the test holds or not
+pub count_in : (n : ℕ) (m : ByServer Bool) → m (suc n) ≡ true → count_to (n + 1) m ≡ count_to n m + 1
 unfolding count_to
-count_more n m = rw add-one (go (m (suc n)))
-  where
-    go : (b : Bool) → cond b 1 0 + count_to n m ≡ count_to n m + bit b
-    go true = omega arith
-    go false = omega arith
+count_in n m h = rw (add-one, h) (omega arith)
+
+pub count_out : (n : ℕ) (m : ByServer Bool) → m (suc n) ≡ false → count_to (n + 1) m ≡ count_to n m
+unfolding count_to
+count_out n m h = rw (add-one, h) (omega arith)
 
 pub count_none : (m : ByServer Bool) → count_to 0 m ≡ 0
 unfolding count_to
@@ -79,18 +64,17 @@ servers_first m j (suc n) h = go (ltb n j) refl (servers_first m j n)
         let k : length (servers_of_def j m) ≤ length (servers_of_def n m) = omega (arith, ap length x, length-take (length (servers_of_def j m)) (servers_of_def n m)) in
         take-append-le (length (servers_of_def j m)) (servers_of_def n m) (cond (m (suc n)) (suc n ∷ []) []) k ∙ x
 
--- one server more is put behind those found: it counts where the test holds
-pub servers_step : (m : ByServer Bool) (j n : ℕ) (out : List ℕ) → n ≡ length (servers_of_def j m) → take n out ≡ servers_of_def j m → n < length out
-    → (n + bit (m (suc j)) ≡ length (servers_of_def (j + 1) m)) × (take (n + bit (m (suc j))) (set out n (j + 1)) ≡ servers_of_def (j + 1) m)
+-- one server more is put behind those found, where the test holds of it
+pub servers_in : (m : ByServer Bool) (j n : ℕ) (out : List ℕ) → n ≡ length (servers_of_def j m) → take n out ≡ servers_of_def j m → n < length out
+    → m (suc j) ≡ true → (n + 1 ≡ length (servers_of_def (j + 1) m)) × (take (n + 1) (set out n (j + 1)) ≡ servers_of_def (j + 1) m)
 unfolding servers_of_def
-servers_step m j n out e h l = rw add-one (go (m (suc j)))
-  where
-    go : (b : Bool) → (n + bit b ≡ length (servers_of_def j m ++ cond b (suc j ∷ []) [])) ×
-        (take (n + bit b) (set out n (suc j)) ≡ servers_of_def j m ++ cond b (suc j ∷ []) [])
-    go true = (
-      omega (arith, length-append (servers_of_def j m) (suc j ∷ [])),
-      rw add-one (take-suc-set out n (suc j) l ∙ ap (λ (z : List ℕ). z ++ (suc j ∷ [])) h),
+servers_in m j n out e h l q =
+    let i : n + 1 ≡ suc n = add-one n in
+    let f : servers_of_def (j + 1) m ≡ servers_of_def j m ++ (suc j ∷ []) = rw (add-one j, q) refl in (
+      omega (arith, ap length f, length-append (servers_of_def j m) (suc j ∷ [])),
+      rw (f, i, add-one j) (take-suc-set out n (suc j) l ∙ ap (λ (z : List ℕ). z ++ (suc j ∷ [])) h),
     )
-    go false =
-        let z : n + 0 ≡ n = omega arith in
-        (rw append-nil (omega arith), rw (append-nil, z) (take-set-le n out n (suc j) (omega arith) ∙ h))
+
+pub servers_out : (m : ByServer Bool) (j : ℕ) → m (suc j) ≡ false → servers_of_def (j + 1) m ≡ servers_of_def j m
+unfolding servers_of_def
+servers_out m j q = rw (add-one, q) (append-nil (servers_of_def j m))

@@ -19,7 +19,7 @@ use Rattle.protocol.proofs.Equal.{candidate-same, candidate-refl}
 use Rattle.decide.specs.Decided.{slot_of}
 use Rattle.decide.specs.Listing.{enters}
 use Rattle.decide.specs.declared.leading.Group.{Group}
-use Rattle.decide.specs.Steps.{leader_at, GroupAs, tried_at, first_proven, Hit, ChoiceAs}
+use Rattle.decide.specs.Steps.{leader_at, Leads, tried_at, first_proven, Hit}
 use Rattle.decide.proofs.Tops.{keep_append}
 use Rattle.decide.proofs.Gathered.{gather_more, enters_twin, entered}
 
@@ -92,13 +92,10 @@ module _ (t : ℕ) (marks kept : List ℕ) (key : ℕ) where
       (candidates_in (shelf t) kept) n h
 
   -- the slot is passed
-  pub chosen-passed : (n : ℕ) (r : Group) → first_proven t marks kept key n ≡ none
-      → GroupAs t marks kept n (cond (tried_at t kept key n) (leader_at t marks kept n (shelf t).servers) 0) r → r.server ≡ 0
-      → first_proven t marks kept
-      key (n + 1) ≡ none
-  chosen-passed n r h g e =
-      ap (first_proven t marks kept key) (add-one n) ∙ chosen_more n h ∙ go (tried_at t kept key n) (leader_at t marks kept n (shelf t).servers)
-      (sym g.server ∙ e)
+  pub chosen-passed : (n : ℕ) → first_proven t marks kept key n ≡ none
+      → cond (tried_at t kept key n) (leader_at t marks kept n (shelf t).servers) 0 ≡ 0 → first_proven t marks kept key (n + 1) ≡ none
+  chosen-passed n h e =
+      ap (first_proven t marks kept key) (add-one n) ∙ chosen_more n h ∙ go (tried_at t kept key n) (leader_at t marks kept n (shelf t).servers) e
     where
       go : (b : Bool) (x : ℕ) → cond b x 0 ≡ 0 → cond b (cond (not (eqb x 0)) (some (candidates_in (shelf t) kept (suc n))) none) none ≡ none
       go true x q = rw (eq-eqb x 0 q)
@@ -106,9 +103,9 @@ module _ (t : ℕ) (marks kept : List ℕ) (key : ℕ) where
 
   -- the slot is the choice's
   pub chosen_here : (n : ℕ) (r : Group) → n < (shelf t).servers → first_proven t marks kept key n ≡ none
-      → GroupAs t marks kept n (cond (tried_at t kept key n) (leader_at t marks kept n (shelf t).servers) 0) r → (r.server ≡ 0 → ⊥)
-      → ChoiceAs t marks kept key (record { slot = n; server = r.server; servers = r.servers })
-  chosen_here n r l h g k = record { nothing = λ e. absurd (k e); hit = λ b e. go b e (tried_at t kept key n) refl }
+      → Leads t marks kept n (cond (tried_at t kept key n) (leader_at t marks kept n (shelf t).servers) 0) r
+      → Hit t marks kept key (record { slot = n; group = r })
+  chosen_here n r l h g = go (tried_at t kept key n) refl
     where
       entering : tried_at t kept key n ≡ true → enters (candidates_in (shelf t) kept) (suc n) ≡ true
       entering q = unfold tried_at in (and_both (eqb (rank (candidates_in (shelf t) kept (suc n)).stamp) key)
@@ -121,19 +118,20 @@ module _ (t : ℕ) (marks kept : List ℕ) (key : ℕ) where
           ∙ (unfold first_proven in found-kept (proven real (shelf t) (marked marks) (replies_in (shelf t) marks kept)) (λ d. eqb (rank d.stamp) key)
           (candidates_in (shelf t) kept) c (suc n) ((shelf t).servers - suc n) (unfold first_proven in q))
 
-      go : (b : ℕ) → r.server ≡ suc b → (y : Bool) → tried_at t kept key n ≡ y → Hit t marks kept key
-          (record { slot = n; server = r.server; servers = r.servers }) b
-      go b e true q =
-          let w : leader_at t marks kept n (shelf t).servers ≡ suc b = sym (ap (λ (z : Bool). cond z (leader_at t marks kept n (shelf t).servers) 0)
-          q) ∙ sym g.server ∙ e in
+      go : (y : Bool) → tried_at t kept key n ≡ y → Hit t marks kept key (record { slot = n; group = r })
+      go true q =
+          let w : leader_at t marks kept n (shelf t).servers ≡ suc r.leader = sym (ap (λ (z : Bool). cond z (leader_at t marks kept n (shelf t).servers)
+          0) q) ∙ g.leader in
           record {
             slot = l;
             listed = entering q;
-            chosen = later (candidates_in (shelf t) kept (suc n)) (chosen_more n h ∙ rw (q, w, ne_eqb (suc b) 0 (λ z. omega arith)));
+            chosen = later (candidates_in (shelf t) kept (suc n)) (chosen_more n h ∙ rw (q, w, ne_eqb (suc r.leader) 0 (λ z. omega arith)));
             leader = w;
-            members = g.these b (rw q w);
+            members = g.these;
           }
-      go b e false q = absurd (k (g.server ∙ rw q))
+      go false q =
+          let z : 0 ≡ suc r.leader = sym (ap (λ (z : Bool). cond z (leader_at t marks kept n (shelf t).servers) 0) q) ∙ g.leader in
+          absurd (omega arith)
 
 -- ---- the slot that holds it
 

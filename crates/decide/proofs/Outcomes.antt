@@ -15,6 +15,7 @@ use Rattle.cluster.proofs.Tests.{refused_is}
 use Rattle.sha256.specs.Sha256.{sha256}
 use Rattle.format.specs.Format.{Bytes}
 use Rattle.protocol.specs.Values.{Candidate}
+use Rattle.protocol.specs.Answers.{refusals}
 use Rattle.protocol.specs.Primitives.{real}
 use Rattle.protocol.specs.Rules.{any, first, gather, live, proven, choice, restored_by}
 use Rattle.format.specs.Reading.{over}
@@ -22,7 +23,7 @@ use Rattle.protocol.specs.View.{marked, candidates_in, replies_in, reply_slot_of
 use Rattle.protocol.specs.Packet.{share_size_def}
 use Rattle.protocol.proofs.Room.{shelf-fits}
 use Rattle.decide.specs.declared.leading.Choice.{Choice}
-use Rattle.decide.specs.Decided.{slot_of, decision_answer, decided_on, decide_refusal_def, decided}
+use Rattle.decide.specs.Decided.{slot_of, bare_verdict, decision_answer, decided_on, decide_refusal_def, decided}
 use Rattle.decide.specs.declared.Decision.TheVariants as decisions
 use Rattle.decide.specs.Steps.{Usable, blank_rank, servers_of_def, fits_at, agrees_at_def, leads_at, leader_at, top_at, Full, members_at, first_proven, Hit, content_of, Rising}
 use Rattle.decide.proofs.Contents.{restored-members}
@@ -36,7 +37,10 @@ use Rattle.decide.proofs.Arguments.{few}
 
 -- ---- the slot that was found
 
-module _ (t : ℕ) (marks kept : List ℕ) (u : Usable t kept) (key : ℕ) (r : Choice) (b : ℕ) (k : Hit t marks kept key r b) where
+module _ (t : ℕ) (marks kept : List ℕ) (u : Usable t kept) (key : ℕ) (r : Choice) (k : Hit t marks kept key r) where
+  abbrev b : ℕ
+  b = r.group.leader
+
   led : (leads_at t marks kept r.slot b ≡ true) × (b < (shelf t).servers)
   led = leader-leads t marks kept r.slot (shelf t).servers b k.leader
 
@@ -51,12 +55,12 @@ module _ (t : ℕ) (marks kept : List ℕ) (u : Usable t kept) (key : ℕ) (r : 
   pub hit_full : Full (reply_slot_of kept b)
   hit_full = leader_full t marks kept r.slot (sha256 (candidates_in (shelf t) kept (suc r.slot)).nonce) refl b hit-small hit-fits.0
 
-  pub hit_rises : Rising t r.servers
-  hit_rises = members_rise t (agrees_at_def t marks kept r.slot b) r.servers (unfold members_at in k.members) hit-fits.1
+  pub hit_rises : Rising t r.group.servers
+  hit_rises = members_rise t (agrees_at_def t marks kept r.slot b) r.group.servers (unfold members_at in k.members) hit-fits.1
 
   hit-content : restored_by real (shelf t) (marked marks) (replies_in (shelf t) marks kept) (candidates_in (shelf t) kept (suc r.slot)) (suc b)
       (replies_in (shelf t) marks kept (suc b)).share
-      ≡ content_of t kept b (take (shelf t).threshold r.servers)
+      ≡ content_of t kept b (take (shelf t).threshold r.group.servers)
   unfolding share_size_def
   hit-content =
       let f = shelf-fits t u.low u.high in
@@ -77,11 +81,11 @@ module _ (t : ℕ) (marks kept output : List ℕ) where
   number = decide_refusal_def t (length kept) (length output)
 
   pub decided-refused : (n : ℕ) → n ≡ number → n ≢ 0 → decided t marks kept output
-      ≡ record { answer = decision_answer (decisions.Refused n); output = output }
+      ≡ record { answer = bare_verdict (refusals + n); output = output }
   unfolding decided
   decided-refused n e ne =
       refused_is number _ _ (λ z. ne (e ∙ z))
-      ∙ ap (λ (k : ℕ). record { answer = decision_answer (decisions.Refused k); output = output }) (sym e)
+      ∙ ap (λ (k : ℕ). record { answer = bare_verdict (refusals + k); output = output }) (sym e)
 
   module _ (e : number ≡ 0) (bytes : Bytes kept) where
     writers : (i : ℕ) → (candidates_in (shelf t) kept i).stamp.writer < 256
@@ -139,15 +143,15 @@ module _ (t : ℕ) (marks kept output : List ℕ) where
     unfolding decided_on
     decided_none h q = chosen_on h none q
 
-    pub decided-found : (u : Usable t kept) (r : Choice) (b : ℕ) → blank_rank < top_at t marks kept (shelf t).servers
-        → Hit t marks kept (top_at t marks kept (shelf t).servers) r b
+    pub decided-found : (u : Usable t kept) (r : Choice) → blank_rank < top_at t marks kept (shelf t).servers
+        → Hit t marks kept (top_at t marks kept (shelf t).servers) r
         → decided t marks kept output
         ≡ record {
-          answer = decision_answer (decisions.Found r.slot (suc b) (length (content_of t kept b (take (shelf t).threshold r.servers))));
-          output = over (content_of t kept b (take (shelf t).threshold r.servers)) output;
+          answer = decision_answer (decisions.Found r.slot (suc r.group.leader) (length (content_of t kept r.group.leader (take (shelf t).threshold r.group.servers))));
+          output = over (content_of t kept r.group.leader (take (shelf t).threshold r.group.servers)) output;
         }
     unfolding decided_on leader_at
-    decided-found u r b h k =
+    decided-found u r h k =
         let key : ℕ = top_at t marks kept (shelf t).servers in
         chosen_on h (some (candidates_in (shelf t) kept (suc r.slot))) k.chosen
-        ∙ rw (k.leader, hit-content t marks kept u key r b k, hit-slot t marks kept u key r b k)
+        ∙ rw (k.leader, hit-content t marks kept u key r k, hit-slot t marks kept u key r k)

@@ -1,13 +1,15 @@
 -- What a filter round has decided, by document 01's rules on the view of the kept bytes, and the content that it gives.
 use Rattle.std.specs.Prelude.{Bool, cond, not, ◌&&◌, List, [], ◌∷◌, ℕ, zero, suc, ◌+◌, ◌-◌, leb, ltb, eqb, length, drop}
+use Rattle.std.specs.Prelude as told
 use Rattle.std.proofs.Math.Option.{Option, none, some}
 use Rattle.cluster.specs.Config.{Config, shelf}
 use Rattle.cluster.specs.Ranges.{within, top_faults, top_length, content_room}
-use Rattle.cluster.specs.Refusals.{wrong_size, refuse, first_of, on_refusal}
+use Rattle.cluster.specs.Refusals.{wrong_size, refuse, first_of, on_refusal, refusal_number}
+use Rattle.cluster.specs.declared.Refusal.{Refusal}
 use Rattle.erasure.specs.Fragments.{fragment_size_def}
 use Rattle.protocol.specs.Values.{Candidate, Share, Held, same_list, same_candidate, stamp_size, digest_size, digests_size_def}
 use Rattle.protocol.specs.declared.Taken.TheVariants as taken
-use Rattle.protocol.specs.Answers.{taken_answer}
+use Rattle.protocol.specs.Answers.{refusals, taken_answer}
 use Rattle.protocol.specs.Primitives.{real}
 use Rattle.protocol.specs.Rules.{ByServer, gather, live, choice, leader, restored_by}
 use Rattle.format.specs.Reading.{over}
@@ -24,16 +26,20 @@ pub record Verdict : Type 0 where
   pub server : ℕ
   pub length : ℕ
 
-abbrev bare_verdict : ℕ → Verdict
+abbrev pub bare_verdict : ℕ → Verdict
 bare_verdict n = record { result = n; slot = 0; server = 0; length = 0 }
 
--- Refusal, goes on and blank have the results of a reply that is taken. What is found may still need repair, so its 2 is the result when the tags
+-- Goes on and blank have the results of a reply that is taken. What is found may still need repair, so its 2 is the result when the tags
 -- agree (client's judged_by says what each does to the call).
 abbrev pub decision_answer : Decision → Verdict
-decision_answer (decisions.Refused n) = bare_verdict (taken_answer (taken.Refused n)).result
 decision_answer decisions.Wait = bare_verdict (taken_answer taken.More).result
 decision_answer decisions.Blank = bare_verdict (taken_answer taken.Blank).result
 decision_answer (decisions.Found i b n) = record { result = (taken_answer (taken.Read 0 0 n)).result; slot = i; server = b; length = n }
+
+-- the same, or a refusal's result
+abbrev pub decision_told : told.Result Decision Refusal → Verdict
+decision_told (told.Ok d) = decision_answer d
+decision_told (told.Err why) = bare_verdict (refusals + refusal_number why)
 
 -- the answer, and the output buffer after it
 pub record Decided : Type 0 where
@@ -70,7 +76,7 @@ decided t marks kept output =
     let cs = gather (candidates_in s kept) s.servers in
     let n = decide_refusal_def t (length kept) (length output) in
     on_refusal n (decided_on s m g (candidates_in s kept) output (live real s m g cs) (choice real s m g cs))
-    (record { answer = decision_answer (decisions.Refused n); output = output })
+    (record { answer = bare_verdict (refusals + n); output = output })
 
 -- where the tags stand in a reply of a content of n bytes: past stamp, byte, length, fragment, digests and nonce digest
 abbrev pub tags_place_def : ℕ → ℕ → ℕ

@@ -2,6 +2,7 @@
 -- The steps to a decision, one for each function of the code, in terms of the rules.
 -- Stamps are compared by their ranks.
 use Rattle.std.specs.Prelude.{◌≡◌, Bool, true, false, cond, ◌&&◌, List, [], ◌∷◌, ◌++◌, map, ℕ, zero, suc, ◌+◌, ◌-◌, ◌*◌, ◌≤◌, ◌<◌, leb, ltb, eqb, length, take, drop, get_or}
+use Rattle.std.specs.Prelude as told
 use Rattle.std.proofs.Math.Option.{Option, none, some}
 use Rattle.cluster.specs.Config.{Config, quorum, shelf}
 use Rattle.cluster.specs.Ranges.{top_length, top_faults}
@@ -13,7 +14,6 @@ use Rattle.protocol.specs.Rules.{ByServer, count_to, keep, first, gather, proven
 use Rattle.protocol.specs.View.{kept_size, marked, candidates_in, replies_in, reply_slot_of, replies_place, reply_slot, stamp_at_def, share_at, held_at}
 use Rattle.format.specs.Reading.{bytes_at}
 use Rattle.erasure.specs.Fragments.{Part, fragment_size_def, restored}
-use Rattle.decide.specs.declared.leading.Members.{Members}
 use Rattle.decide.specs.declared.leading.Choice.{Choice}
 use Rattle.decide.specs.declared.leading.Group.{Group}
 use Rattle.decide.specs.Listing.{usable, enters}
@@ -29,10 +29,6 @@ pub record Usable (t : ℕ) (kept : List ℕ) : Type 0 where
 pub record UsableAs (t : ℕ) (kept : List ℕ) (r : Bool) : Type 0 where
   pub same : r ≡ usable t kept
   pub told : r ≡ true → Usable t kept
-
-abbrev pub bit : Bool → ℕ
-bit true = 1
-bit false = 0
 
 -- ---- ranks
 
@@ -120,15 +116,25 @@ pub record TagsAt (t n r : ℕ) : Type 0 where
   pub place : r ≡ tags_place_def t n
   pub room : r + tags_size_def (shelf t) ≤ reply_slot
 
--- the first servers of the array are the members
-pub record MembersAs (t : ℕ) (marks kept : List ℕ) (i b : ℕ) (r : Members) : Type 0 where
-  pub count : r.count ≡ length (members_at t marks kept i b)
-  pub these : take r.count r.servers ≡ members_at t marks kept i b
+-- the first servers of an array are the members of a group: all that restore a content
+pub record Members (t : ℕ) (marks kept : List ℕ) (i b : ℕ) (servers : List ℕ) : Type 0 where
+  pub enough : (shelf t).threshold ≤ length (members_at t marks kept i b)
+  pub these : take (shelf t).threshold servers ≡ members_at t marks kept i b
 
--- the server n, or 0; where it is that of slot b, the members of its group
-pub record GroupAs (t : ℕ) (marks kept : List ℕ) (i n : ℕ) (r : Group) : Type 0 where
-  pub server : r.server ≡ n
-  pub these : (b : ℕ) → n ≡ suc b → take (shelf t).threshold r.servers ≡ members_at t marks kept i b
+-- the members, where there are enough
+abbrev pub MembersAs : ℕ → List ℕ → List ℕ → ℕ → ℕ → told.Option (List ℕ) → Type 0
+MembersAs t marks kept i b told.None = length (members_at t marks kept i b) < (shelf t).threshold
+MembersAs t marks kept i b (told.Some servers) = Members t marks kept i b servers
+
+-- server n leads a group
+pub record Leads (t : ℕ) (marks kept : List ℕ) (i n : ℕ) (r : Group) : Type 0 where
+  pub leader : n ≡ suc r.leader
+  pub these : take (shelf t).threshold r.servers ≡ members_at t marks kept i r.leader
+
+-- the group of server n, where it is not 0
+abbrev pub GroupAs : ℕ → List ℕ → List ℕ → ℕ → ℕ → told.Option Group → Type 0
+GroupAs t marks kept i n told.None = n ≡ 0
+GroupAs t marks kept i n (told.Some r) = Leads t marks kept i n r
 
 -- the candidate of slot i has this rank and is listed
 unfoldable pub tried_at : ℕ → List ℕ → ℕ → ℕ → Bool
@@ -140,17 +146,17 @@ first_proven t marks kept key n =
     first (proven real (shelf t) (marked marks) (replies_in (shelf t) marks kept))
     (keep (λ c. eqb (rank c.stamp) key) (gather (candidates_in (shelf t) kept) n))
 
--- it stands in the slot, which is listed, and slot b leads its group
-pub record Hit (t : ℕ) (marks kept : List ℕ) (key : ℕ) (r : Choice) (b : ℕ) : Type 0 where
+-- it stands in the slot, which is listed, and the group proves it
+pub record Hit (t : ℕ) (marks kept : List ℕ) (key : ℕ) (r : Choice) : Type 0 where
   pub slot : r.slot < (shelf t).servers
   pub listed : enters (candidates_in (shelf t) kept) (suc r.slot) ≡ true
   pub chosen : first_proven t marks kept key (shelf t).servers ≡ some (candidates_in (shelf t) kept (suc r.slot))
-  pub leader : leader_at t marks kept r.slot (shelf t).servers ≡ suc b
-  pub members : take (shelf t).threshold r.servers ≡ members_at t marks kept r.slot b
+  pub leader : leader_at t marks kept r.slot (shelf t).servers ≡ suc r.group.leader
+  pub members : take (shelf t).threshold r.group.servers ≡ members_at t marks kept r.slot r.group.leader
 
-pub record ChoiceAs (t : ℕ) (marks kept : List ℕ) (key : ℕ) (r : Choice) : Type 0 where
-  pub nothing : r.server ≡ 0 → first_proven t marks kept key (shelf t).servers ≡ none
-  pub hit : (b : ℕ) → r.server ≡ suc b → Hit t marks kept key r b
+abbrev pub ChoiceAs : ℕ → List ℕ → List ℕ → ℕ → told.Option Choice → Type 0
+ChoiceAs t marks kept key told.None = first_proven t marks kept key (shelf t).servers ≡ none
+ChoiceAs t marks kept key (told.Some r) = Hit t marks kept key r
 
 -- ---- restoring
 

@@ -25,11 +25,9 @@ fn fragments_of(
     let f = fragment_size(t, n);
     let k = threshold(t);
     let mut out = [0u8; FRAGMENTS];
-    let mut p = 0;
-    while p < k {
+    for p in 0..k {
         let at = REPLIES + REPLY_SLOT * (servers[p] - 1) + HELD_LENGTH;
         copy(&mut out, p * f, &kept[at..at + f]);
-        p += 1;
     }
     out
 }

@@ -3,10 +3,12 @@
 #![tactic(auto)]
 
 ghost use Rattle.std.specs.Prelude.{◌≡◌};
+ghost use Rattle.cluster.specs.Refusals.{number_told};
 ghost use Rattle.decide.specs.Listing.{listed_in, listed_count};
 ghost use Rattle.decide.specs.Steps.{UsableAs};
-ghost use Rattle.decide.specs.Decided.{tags_place_def, same_tags_def, decide_refusal_def, decision_answer, decided};
+ghost use Rattle.decide.specs.Decided.{tags_place_def, same_tags_def, decide_refusal_def, decision_told, decided};
 
+use cluster::Refusal;
 use crate::content::rebuild;
 use crate::leading::{Replied, find};
 use crate::list::entry;
@@ -31,26 +33,14 @@ pub(crate) const BLANK_RANK: u64 = 255;
 fn is_usable(kept: &[u8], t: usize) -> bool
     ensures { UsableAs t kept.now result }
 {
-    if t < 1 {
-        return false;
-    }
-    if t > cluster::TOP_FAULTS {
-        return false;
-    }
-    kept.len() == wire::kept::KEPT
+    !cluster::outside(1, cluster::TOP_FAULTS, t) && kept.len() == wire::kept::KEPT
 }
 
 // Whether slot i is listed.
 pub fn listed(kept: &[u8], t: usize, i: usize) -> bool
     ensures { result ≡ listed_in t kept.now i }
 {
-    if !is_usable(kept, t) {
-        return false;
-    }
-    if i >= servers(t) {
-        return false;
-    }
-    entry(kept, t, i) == 1
+    is_usable(kept, t) && i < servers(t) && entry(kept, t, i)
 }
 
 // How many slots are listed.
@@ -60,12 +50,11 @@ pub fn count_listed(kept: &[u8], t: usize) -> u8
     if !is_usable(kept, t) {
         return 0;
     }
-    let s = servers(t);
-    let mut n: u8 = 0;
-    let mut i = 0;
-    while i < s {
-        n += entry(kept, t, i);
-        i += 1;
+    let mut n = 0;
+    for i in 0..servers(t) {
+        if entry(kept, t, i) {
+            n += 1;
+        }
     }
     n
 }
@@ -84,67 +73,56 @@ pub fn tags_at(t: u8, n: u32) -> usize
 pub fn same_tags(kept: &[u8], t: usize, i: usize, b: usize) -> bool
     ensures { result ≡ same_tags_def t kept.now i b }
 {
-    if !is_usable(kept, t) {
-        return false;
-    }
-    if i >= servers(t) {
-        return false;
-    }
-    if b < 1 {
-        return false;
-    }
-    if b > servers(t) {
-        return false;
-    }
-    tags_alike(kept, t, i, b - 1)
+    is_usable(kept, t)
+        && i < servers(t)
+        && !cluster::outside(1, servers(t), b)
+        && tags_alike(kept, t, i, b - 1)
 }
 
-// What a filter round has decided: the arguments are refused; nothing yet; no candidate is left; or the slot that holds the chosen one, the
-// server that leads its group, and the length of the content.
+// What a filter round has decided: nothing yet; no candidate is left; or the slot that holds the chosen one, the server that leads its group, and
+// the length of the content.
 #[derive(Clone, Copy)]
 pub enum Decision {
-    Refused(u8),
     Wait,
     Blank,
     Found(usize, usize, usize),
 }
 
-fn decide_refusal(t: usize, size: usize, room: usize) -> u8
-    ensures { result ≡ decide_refusal_def t size room }
+fn decide_refusal(t: usize, size: usize, room: usize) -> Result<(), Refusal>
+    ensures { number_told result ≡ decide_refusal_def t size room }
 {
     if size != wire::kept::KEPT {
-        return cluster::WRONG_SIZE;
+        return Err(Refusal::WrongSize);
     }
     if cluster::outside(1, cluster::TOP_FAULTS, t) {
-        return cluster::refusals::FAULTS;
+        return Err(Refusal::Faults);
     }
     if room < cluster::CONTENT_ROOM {
-        return cluster::refusals::ROOM;
+        return Err(Refusal::Room);
     }
-    0
+    Ok(())
 }
 
 // What the filter round has decided; where a candidate is found, its content at the start of out.
-pub fn decide(kept: &[u8], marks: [u8; cluster::MOST_SERVERS], t: usize, out: &mut [u8]) -> Decision
-    ensures { (decision_answer result ≡ (decided t marks kept.now out.old).answer)
+pub fn decide(
+    kept: &[u8],
+    marks: [u8; cluster::MOST_SERVERS],
+    t: usize,
+    out: &mut [u8],
+) -> Result<Decision, Refusal>
+    ensures { (decision_told result ≡ (decided t marks kept.now out.old).answer)
         × (out.new ≡ (decided t marks kept.now out.old).output) }
 {
-    let n = decide_refusal(t, kept.len(), out.len());
-    if n != 0 {
-        return Decision::Refused(n);
-    }
+    decide_refusal(t, kept.len(), out.len())?;
     let replied = Replied { marks, t };
     let key = top(kept, replied);
     if key <= BLANK_RANK {
-        return Decision::Blank;
+        return Ok(Decision::Blank);
     }
-    let c = find(kept, replied, key);
-    let slot = c.slot;
-    let server = c.server;
-    let group = c.servers;
-    if server == 0 {
-        return Decision::Wait;
-    }
-    let count = rebuild(kept, t, server - 1, group, out);
-    Decision::Found(slot, server, count)
+    let Some(choice) = find(kept, replied, key) else {
+        return Ok(Decision::Wait);
+    };
+    let group = choice.group;
+    let count = rebuild(kept, t, group.leader, group.servers, out);
+    Ok(Decision::Found(choice.slot, group.leader + 1, count))
 }

@@ -5,7 +5,7 @@ ghost use Rattle.cluster.specs.Ranges.{most_servers};
 ghost use Rattle.protocol.specs.Values.{same_candidate};
 ghost use Rattle.protocol.specs.View.{candidates_in};
 ghost use Rattle.decide.specs.Listing.{enters};
-ghost use Rattle.decide.specs.Steps.{Usable, bit};
+ghost use Rattle.decide.specs.Steps.{Usable};
 
 use crate::BLANK_RANK;
 use crate::sizes::{rank_at, servers};
@@ -24,20 +24,18 @@ fn twins(kept: &[u8], t: usize, i: usize, j: usize) -> bool
     same(&kept[a..a + n], &kept[b..b + n])
 }
 
-// Whether slot i's candidate enters the list: 1 or 0.
-pub(crate) fn entry(kept: &[u8], t: usize, i: usize) -> u8
+// Whether slot i's candidate enters the list.
+pub(crate) fn entry(kept: &[u8], t: usize, i: usize) -> bool
     requires { (Usable t kept.now) × (i < most_servers) }
-    ensures { result ≡ bit (enters (candidates_in (shelf t) kept.now) (suc i)) }
+    ensures { result ≡ enters (candidates_in (shelf t) kept.now) (suc i) }
 {
     if rank_at(kept, CANDIDATES + CANDIDATE_SLOT * i) <= BLANK_RANK {
-        return 0;
+        return false;
     }
-    let mut j = 0;
-    while j < i {
+    for j in 0..i {
         if twins(kept, t, i, j) {
-            return 0;
+            return false;
         }
-        j += 1;
     }
-    1
+    true
 }

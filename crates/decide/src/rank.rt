@@ -3,25 +3,19 @@ ghost use Rattle.std.specs.Prelude.{◌≡◌, not, ◌&&◌, suc, ◌+◌, ◌*
 ghost use Rattle.cluster.specs.Config.{shelf};
 ghost use Rattle.cluster.specs.Ranges.{most_servers};
 ghost use Rattle.protocol.specs.View.{kept_size, replies_place, reply_slot, candidates_in, replies_in, marked};
-ghost use Rattle.decide.specs.Steps.{Usable, rank_at, bit, stays, raised, top_at};
+ghost use Rattle.decide.specs.Steps.{Usable, rank_at, stays, raised, top_at};
 
 use crate::BLANK_RANK;
 use crate::leading::{Replied, Sought};
 use crate::sizes::{rank_at, servers};
 use wire::kept::{CANDIDATE_SLOT, CANDIDATES, REPLIES, REPLY_SLOT};
 
-// 1 where the server of slot j replied with a stamp of a lower rank, else 0.
-fn is_lower(kept: &[u8], mark: u8, j: usize, key: u64) -> usize
+// Whether the server of slot j, with this mark, replied with a stamp of a lower rank.
+fn is_lower(kept: &[u8], mark: u8, j: usize, key: u64) -> bool
     requires { (length kept.now ≡ kept_size) × (j < most_servers) }
-    ensures { result ≡ bit (not (eqb mark 0) && ltb (rank_at kept.now (replies_place + reply_slot * j)) key) }
+    ensures { result ≡ (not (eqb mark 0) && ltb (rank_at kept.now (replies_place + reply_slot * j)) key) }
 {
-    if mark == 0 {
-        return 0;
-    }
-    if rank_at(kept, REPLIES + REPLY_SLOT * j) < key {
-        return 1;
-    }
-    0
+    mark != 0 && rank_at(kept, REPLIES + REPLY_SLOT * j) < key
 }
 
 // Whether a candidate of this rank is still in the list: fewer than a quorum replied with a lower stamp.
@@ -32,10 +26,10 @@ fn stays(kept: &[u8], replied: Replied, key: u64) -> bool
 {
     let s = servers(replied.t);
     let mut n = 0;
-    let mut j = 0;
-    while j < s {
-        n += is_lower(kept, replied.marks[j], j, key);
-        j += 1;
+    for j in 0..s {
+        if is_lower(kept, replied.marks[j], j, key) {
+            n += 1;
+        }
     }
     n < s - replied.t
 }
@@ -48,10 +42,7 @@ fn raised(kept: &[u8], sought: Sought, top: u64) -> u64
         (candidates_in (shelf sought.replied.t) kept.now (suc sought.slot)) top }
 {
     let key = rank_at(kept, CANDIDATES + CANDIDATE_SLOT * sought.slot);
-    if key <= top {
-        return top;
-    }
-    if stays(kept, sought.replied, key) {
+    if key > top && stays(kept, sought.replied, key) {
         return key;
     }
     top
@@ -62,14 +53,9 @@ pub(crate) fn top(kept: &[u8], replied: Replied) -> u64
     requires { Usable replied.t kept.now }
     ensures { result ≡ top_at replied.t replied.marks kept.now (shelf replied.t).servers }
 {
-    let s = servers(replied.t);
     let mut key = BLANK_RANK;
-    let mut i = 0;
-    while i < s {
-        let sought = Sought { replied, slot: i };
-        let higher = raised(kept, sought, key);
-        key = higher;
-        i += 1;
+    for i in 0..servers(replied.t) {
+        key = raised(kept, Sought { replied, slot: i }, key);
     }
     key
 }

@@ -19,14 +19,8 @@ fn names(reply: &[u8], candidate: &[u8], t: usize, d: &[u8]) -> bool
     requires { (1 ≤ t) × (t ≤ top_faults) × (length reply.now ≡ reply_slot) × (length candidate.now ≡ candidate_slot) }
     ensures { result ≡ names (candidate_at (shelf t) candidate.now) d.now (held_at (shelf t) reply.now) }
 {
-    if reply[STAMP] == 0 {
-        return false;
-    }
     let n = size_of(reply);
-    if n > cluster::TOP_LENGTH {
-        return false;
-    }
-    if !same(&reply[0..STAMP], &candidate[0..STAMP]) {
+    if reply[STAMP] == 0 || n > cluster::TOP_LENGTH || !same(&reply[..STAMP], &candidate[..STAMP]) {
         return false;
     }
     let at = digests_at(t, n) + DIGEST * servers(t);
@@ -50,12 +44,9 @@ fn alike(a: &[u8], b: &[u8], t: usize) -> bool
     ensures { result ≡ same_share real (shelf t) (held_at (shelf t) a.now).share (held_at (shelf t) b.now).share }
 {
     let n = size_of(a);
-    if size_of(b) != n {
-        return false;
-    }
     let at = digests_at(t, n);
     let e = tags_place(t, n) + hmac::TAG * servers(t);
-    same(&a[at..e], &b[at..e])
+    size_of(b) == n && same(&a[at..e], &b[at..e])
 }
 
 // The candidate of slot i is named in slot j.
