@@ -1,5 +1,6 @@
 -- A clock reply as the code takes it: its stamp stands whole past the head, and each way through the round is the definition's step.
 -- By cases on the round's tests, each a law of the replies that are taken. Assumes nothing.
+use Rattle.std.specs.Prelude.{Result, Ok, Err}
 use mathlib.Core.Path.{◌≡◌, refl, sym, ap, ◌∙◌, subst}
 use mathlib.Core.Bool.{Bool, true, false, cond, ◌&&◌}
 use mathlib.Core.List.{List, [], ◌∷◌}
@@ -8,7 +9,9 @@ use lib.Dec.{leb, ltb}
 use lib.ListN.{length, drop}
 use borrow.Author.Tests.{ltb-false, leb-false}
 use Rattle.cluster.specs.Config.{shelf}
-use Rattle.cluster.specs.Refusals.{refuse, first_of}
+use Rattle.cluster.specs.declared.Refusal.{Refusal}
+use Rattle.cluster.specs.Refusals.{refuse, first_of, refusal_number}
+use Rattle.decide.proofs.Arguments.{refusal_some}
 use Rattle.cluster.specs.Ranges.{top_number, content_room}
 use Rattle.cluster.proofs.Tests.{and_both, passes}
 use Rattle.protocol.specs.declared.Call.{Call}
@@ -48,43 +51,41 @@ module _ (t client : ℕ) (c : Call) (reply : List ℕ) (h : Head) (y : Ready t 
     abbrev top : ℕ
     top = higher real writers c.high (stamp_at_def (drop head_size reply))
 
-    abbrev Takes : Answered → List ℕ → Type 0
+    abbrev Takes : Result Answered Refusal → List ℕ → Type 0
     Takes a k = TakesAs t client writers keys c kept reply output a k output
 
     abbrev over : Bool
     over = ends (shelf t) c h.server && leb top_number top
 
-    refused_as : (p q : Bool) → over ≡ p → ltb (length output) content_room ≡ q → (n : ℕ) → n ≡ cond p 14 (cond q 15 0) → (n ≡ 0 → ⊥)
-        → Takes (record { answer = taken.Refused n; call = c }) kept
+    refused_as : (p q : Bool) → over ≡ p → ltb (length output) content_room ≡ q → (why : Refusal)
+        → refusal_number why ≡ cond p 14 (cond q 15 0) → Takes (Err why) kept
     unfolding take_by_rounds
-    refused_as true q f g n e ne =
+    refused_as true q f g why e =
         let w = and_both (ends (shelf t) c h.server) (leb top_number top) f in
         rw e (sym (clock_too-high t client writers (key_of keys) c kept output reply h y clock w.0 w.1))
-    refused_as false true f g n e ne = rw e (sym (clock_short t client writers (key_of keys) c kept output reply h y clock f g))
-    refused_as false false f g n e ne = absurd (ne e)
+    refused_as false true f g why e = rw e (sym (clock_short t client writers (key_of keys) c kept output reply h y clock f g))
+    refused_as false false f g why e = absurd (refusal_some why e)
 
-    pub clock-refused : (n room high : ℕ) → n ≡ first_of (refuse 14 (ends (shelf t) c h.server && leb top_number high)
-        ∷ refuse 15 (ltb room content_room) ∷ []) →
-        (n ≡ 0 → ⊥)
-        → high ≡ top → length output ≡ room → Takes (record { answer = taken.Refused n; call = c }) kept
-    clock-refused n room high e ne m l = refused_as over (ltb (length output) content_room) refl refl n (rw (m, ← l) at e) ne
+    pub clock-refused : (why : Refusal) (room high : ℕ) → refusal_number why ≡ first_of (refuse 14 (ends (shelf t) c h.server && leb top_number high)
+        ∷ refuse 15 (ltb room content_room) ∷ [])
+        → high ≡ top → length output ≡ room → Takes (Err why) kept
+    clock-refused why room high e m l = refused_as over (ltb (length output) content_room) refl refl why (rw (m, ← l) at e)
 
-    module _ (n room high : ℕ) (e : n ≡ first_of (refuse 14 (ends (shelf t) c h.server && leb top_number high) ∷ refuse 15 (ltb room content_room)
-        ∷ []))
-        (z : n ≡ 0) (m : high ≡ top) where
+    module _ (room high : ℕ) (e : 0 ≡ first_of (refuse 14 (ends (shelf t) c h.server && leb top_number high) ∷ refuse 15 (ltb room content_room) ∷ []))
+        (m : high ≡ top) where
       fine : over ≡ false
-      fine = rw m at (passes (ends (shelf t) c h.server && leb top_number high) 13 (cond (ltb room content_room) 15 0) (sym e ∙ z)).0
+      fine = rw m at (passes (ends (shelf t) c h.server && leb top_number high) 13 (cond (ltb room content_room) 15 0) (sym e)).0
 
       wide : length output ≡ room → content_room ≤ length output
       wide l =
-          let p = (passes (ends (shelf t) c h.server && leb top_number high) 13 (cond (ltb room content_room) 15 0) (sym e ∙ z)).1 in
+          let p = (passes (ends (shelf t) c h.server && leb top_number high) 13 (cond (ltb room content_room) 15 0) (sym e)).1 in
           rw l (ltb-false room content_room (passes (ltb room content_room) 14 0 p).0)
 
       pub clock-below : ends (shelf t) c h.server ≡ true → high < top_number
       clock-below q = rw m (leb-false top_number top (rw q at fine))
 
       pub clock-noted : length output ≡ room → ends (shelf t) c h.server ≡ false
-          → Takes (record {
+          → Takes (Ok (record {
             answer = taken.More;
             call = record {
               number = c.number;
@@ -93,12 +94,12 @@ module _ (t client : ℕ) (c : Call) (reply : List ℕ) (h : Head) (y : Ready t 
               length = c.length;
               tally = noted (shelf t) c.tally h.server;
             };
-          }) kept
+          })) kept
       unfolding take_by_rounds
       clock-noted l q = rw m (sym (clock_goes t client writers (key_of keys) c kept output reply h y clock fine (wide l) q))
 
       pub clock-ended : length output ≡ room → ends (shelf t) c h.server ≡ true
-          → Takes (record {
+          → Takes (Ok (record {
             answer = taken.More;
             call = record {
               number = c.number;
@@ -107,7 +108,7 @@ module _ (t client : ℕ) (c : Call) (reply : List ℕ) (h : Head) (y : Ready t 
               length = c.length;
               tally = fresh 2;
             };
-          })
+          }))
           (write_made t client writers keys c kept (suc high))
       unfolding take_by_rounds
       clock-ended l q = rw m (sym (clock-ends t client writers (key_of keys) c kept output reply h y clock fine (wide l) q))

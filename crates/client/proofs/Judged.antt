@@ -1,6 +1,9 @@
 -- What a decision leads to is the definition's judgement. By its three cases: the slot told holds the chosen candidate, its leader's reply has the
 -- group's tags and the content's length, and the candidate for repair is that slot's name with those tags. Assumes nothing but that the kept bytes
 -- are bytes.
+use Rattle.std.specs.Prelude.{Result, Ok, Err, IsOk}
+use Rattle.cluster.specs.declared.Refusal.{Refusal}
+use Rattle.decide.specs.declared.Decision.{Decision}
 use mathlib.Core.Path.{◌≡◌, refl, sym, ap, ◌∙◌, subst}
 use mathlib.Core.Bool.{Bool, true, false, not}
 use mathlib.Core.List.{List, [], ◌∷◌, ◌++◌}
@@ -32,7 +35,7 @@ use Rattle.client.specs.Rounds.{took, delivers, found_in, judge_in, with_tally_d
 use Rattle.protocol.proofs.Primitive.{real-lengths}
 use Rattle.protocol.proofs.Room.{shelf-fits}
 use Rattle.decide.specs.declared.Decision.TheVariants as decisions
-use Rattle.decide.specs.Decided.{Verdict, decision_answer, Decided, tags_place_def, slot_of, decided_on, decide_refusal_def, decided}
+use Rattle.decide.specs.Decided.{Verdict, decision_told, decision_answer, Decided, tags_place_def, slot_of, decided_on, decide_refusal_def, decided}
 use Rattle.decide.specs.Steps.{Usable, Full, leader_at, fits_at, leads_at}
 use Rattle.decide.proofs.Places.{part-part, candidate_in_lem, reply_in, part_length, bytes-part}
 use Rattle.decide.proofs.Replies.{size_in_def, held_share, tags_in_lem, slot-part}
@@ -43,24 +46,11 @@ use Rattle.client.proofs.Printed.{name_printed}
 
 -- ---- by the decision's answer
 
--- a refusal's result is none of the other verdicts'
-not-below : (n k : ℕ) → k < refusals → eqb (refusals + n) k ≡ false
-not-below n k h = ne_eqb (refusals + n) k (λ e. omega (arith, e))
-
 module _ (t : ℕ) (c : Call) (kept output : List ℕ) where
   by_verdict : (v : Verdict) → (decided_now t c kept).answer ≡ v
       → judged_by t c kept output v (decided_now t c kept).output ≡ judged_in t c kept output
   unfolding judged_in
   by_verdict v e = sym (ap (λ (x : Verdict). judged_by t c kept output x (decided_now t c kept).output) e)
-
-  pub judged-refused : (n : ℕ) → (decided_now t c kept).answer ≡ decision_answer (decisions.Refused n)
-      → record { answer = taken_answer (taken.Refused n); call = c; kept = kept; output = output } ≡ judged_in t c kept output
-  judged-refused n e = sym (go (decided_now t c kept).output) ∙ by_verdict (decision_answer (decisions.Refused n)) e
-    where
-      go : (room : List ℕ)
-          → judged_by t c kept output (decision_answer (decisions.Refused n)) room
-          ≡ record { answer = taken_answer (taken.Refused n); call = c; kept = kept; output = output }
-      go room = unfold judged_by in rw (not-below n 2 (omega arith), not-below n 3 (omega arith))
 
   pub judged_wait : (decided_now t c kept).answer ≡ decision_answer decisions.Wait
       → record { answer = taken_answer taken.More; call = c; kept = kept; output = output } ≡ judged_in t c kept output
@@ -226,6 +216,21 @@ module _ (t : ℕ) (marks kept : List ℕ) (u : Usable t kept) (bytes : Bytes ke
     judged_by_lem l =
         ap (λ (d : Decided). judged_by t (with_tally_def c y) kept output d.answer d.output) (on-choice room l)
         ∙ judged_on (live real (shelf t) m g listed) (choice real (shelf t) m g listed) refl
+
+  -- ---- a decision is no refusal
+
+  told_on : (room : List ℕ) (r : Result Decision Refusal) (ls : List Candidate) (o : Option Candidate)
+      → decision_told r ≡ (decided_on (shelf t) m g held room ls o).answer → IsOk r
+  unfolding decided_on
+  told_on room (Ok d) ls o e = refl
+  told_on room (Err why) [] o e = absurd (omega (arith, ap (λ (v : Verdict). v.result) e))
+  told_on room (Err why) (l ∷ ls) none e = absurd (omega (arith, ap (λ (v : Verdict). v.result) e))
+  told_on room (Err why) (l ∷ ls) (some x) e = absurd (omega (arith, ap (λ (v : Verdict). v.result) e))
+
+  pub decided-ok : (room : List ℕ) → content_room ≤ length room → (r : Result Decision Refusal)
+      → decision_told r ≡ (decided t marks kept room).answer → IsOk r
+  decided-ok room l r e =
+      told_on room r (live real (shelf t) m g listed) (choice real (shelf t) m g listed) (e ∙ ap (λ (d : Decided). d.answer) (on-choice room l))
 
   -- ---- where a decision points
 

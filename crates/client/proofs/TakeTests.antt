@@ -1,22 +1,23 @@
 -- What take's tests leave of its definition: a refusal with the first test's number, which changes nothing; and what a reply that no test refuses
 -- tells. Each is the ordered list of tests with the known ones put in. Assumes nothing.
+use Rattle.std.specs.Prelude.{Result, Err}
 use mathlib.Core.Path.{◌≡◌, refl, sym, ap, subst, ◌∙◌}
 use mathlib.Core.Bool.{Bool, true, false, cond, true≢false}
 use mathlib.Core.List.{List, []}
 use mathlib.Core.Option.{Option, none, some}
-use Prim.Native.Nat.{ℕ, ◌*◌, ◌≤◌, ◌<◌}
+use Prim.Native.Nat.{ℕ, ◌+◌, ◌*◌, ◌≤◌, ◌<◌}
 use native.Mathlib.Omega.{arith}
 use lib.Dec.{eqb}
 use lib.ListN.{length, drop}
 use borrow.Author.Tests.{eq-eqb, ne_eqb, lt-ltb}
 use Rattle.cluster.specs.Config.{shelf}
 use Rattle.cluster.specs.Ranges.{most_servers, top_faults, content_room}
-use Rattle.cluster.specs.Refusals.{wrong_size}
+use Rattle.cluster.specs.declared.Refusal.{Refusal}
+use Rattle.cluster.specs.Refusals.{wrong_size, refusal_number}
 use Rattle.cluster.proofs.Tests.{inside, refused_is}
 use Rattle.protocol.specs.declared.Call.{Call}
 use Rattle.protocol.specs.declared.Head.{Head}
-use Rattle.protocol.specs.declared.Taken.TheVariants as taken
-use Rattle.protocol.specs.Answers.{taken_answer}
+use Rattle.protocol.specs.Answers.{refusals, bare}
 use Rattle.format.specs.Format.{Bytes}
 use Rattle.protocol.specs.Packet.{Packet, Body, BodyOk, print_body, collect_reply, any_candidate_f, decode, head_size}
 use Rattle.protocol.specs.Primitives.{real}
@@ -41,7 +42,7 @@ use Rattle.client.proofs.TakenReplies.{body_at_lem, printed}
 
 -- a refusal, which changes nothing
 abbrev pub refused_with_def : Call → List ℕ → List ℕ → ℕ → Took
-refused_with_def c kept output n = record { answer = taken_answer (taken.Refused n); call = c; kept = kept; output = output }
+refused_with_def c kept output n = record { answer = bare (refusals + n); call = c; kept = kept; output = output }
 
 -- the refusals before the packet's head: 3, 5, 7
 module _ (t client : ℕ) (calls kind : ℕ) (replied : ByServer Bool) (high : ℕ → Body → Bool) (room : ℕ) where
@@ -112,15 +113,15 @@ module _ (t client : ℕ) (writers : List ℕ) (keys : List (List ℕ)) (c : Cal
   core_take_lem h = rw (eq-eqb (length kept) kept_size h)
 
   -- what take answers, the relation gives
-  pub taken_in : (a : Answered) (kept' output' : List ℕ) → length c.tally.marks ≡ most_servers → length kept ≡ kept_size
+  pub taken_in : (a : Result Answered Refusal) (kept' output' : List ℕ) → length c.tally.marks ≡ most_servers → length kept ≡ kept_size
       → TakesAs t client writers keys c kept reply output a kept' output'
-      → answered a kept' output' ≡ core_take t client writers keys c kept reply output
+      → answered c a kept' output' ≡ core_take t client writers keys c kept reply output
   taken_in a kept' output' w h e = e ∙ sym (core_take_lem h ∙ same_take real t client writers keys c kept reply output h w)
 
-  -- an answer that refuses, and nothing changed
-  pub takes-refused : (a : Answered) (n : ℕ) → a ≡ record { answer = taken.Refused n; call = c } → whole ≡ refused_with_def c kept output n → TakesAs t
-      client writers keys c kept reply output a kept output
-  takes-refused a n r e = ap (λ (z : Answered). answered z kept output) r ∙ sym e
+  -- a refusal, and nothing changed
+  pub takes-refused : (why : Refusal) → whole ≡ refused_with_def c kept output (refusal_number why) → TakesAs t client writers keys c kept reply output
+      (Err why) kept output
+  takes-refused why e = sym e
 
   -- past clock a short output is the last test
   pub round_short : (h : Head) → Ready t client c reply h → (c.tally.round ≡ 1 → ⊥) → length output < content_room → whole ≡ refused_with_def c kept

@@ -1,6 +1,6 @@
 -- What private functions promise each other; no public contract names these.
 -- Steps of the code on the way to the definitions of crate protocol.
-use Rattle.std.specs.Prelude.{◌≡◌, Bool, false, not, ◌&&◌, ◌||◌, List, [], ◌∷◌, ◌++◌, ℕ, zero, suc, ◌+◌, ◌*◌, eqb, length}
+use Rattle.std.specs.Prelude.{◌≡◌, Bool, false, not, ◌&&◌, ◌||◌, List, [], ◌∷◌, ◌++◌, ℕ, zero, suc, ◌+◌, ◌*◌, eqb, length, Result}
 use Rattle.std.proofs.Math.Option.{some}
 use Rattle.cluster.specs.Config.{shelf}
 use Rattle.cluster.specs.Refusals.{refuse, first_of}
@@ -21,6 +21,7 @@ use Rattle.protocol.specs.ClientBytes.{Filled, key_of, put_shares, awaited}
 use Rattle.client.specs.Answers.{answered}
 use Rattle.client.specs.Rounds.{take_by_rounds}
 use Rattle.client.specs.declared.answers.Answered.{Answered}
+use Rattle.cluster.specs.declared.Refusal.{Refusal}
 
 -- another shelf's packet, or another client's
 abbrev pub foreign : ℕ → ℕ → Head → Bool
@@ -77,6 +78,6 @@ pub record Ready (t client : ℕ) (c : Call) (reply : List ℕ) (h : Head) : Typ
   pub awaited : reply_refusal_def t client c h ≡ 0
 
 -- the answer a, kept bytes and output after it are those of the step that takes the reply
-abbrev pub TakesAs : ℕ → ℕ → List ℕ → List (List ℕ) → Call → List ℕ → List ℕ → List ℕ → Answered → List ℕ → List ℕ → Type 0
+abbrev pub TakesAs : ℕ → ℕ → List ℕ → List (List ℕ) → Call → List ℕ → List ℕ → List ℕ → Result Answered Refusal → List ℕ → List ℕ → Type 0
 TakesAs t client writers keys c kept reply output a kept' output' =
-    answered a kept' output' ≡ take_by_rounds real t client writers keys c kept reply output
+    answered c a kept' output' ≡ take_by_rounds real t client writers keys c kept reply output

@@ -16,23 +16,13 @@ pub struct Answered {
     pub call: protocol::Call,
 }
 
-// A refusal changes nothing.
-pub(crate) fn refused(number: u8, call: protocol::Call) -> Answered
-    ensures { result ≡ record { answer = taken.Refused number; call = call } }
-{
-    Answered {
-        answer: protocol::Taken::Refused(number),
-        call: call,
-    }
-}
-
 // The call goes on.
 pub(crate) fn more(call: protocol::Call) -> Answered
     ensures { result ≡ record { answer = taken.More; call = call } }
 {
     Answered {
         answer: protocol::Taken::More,
-        call: call,
+        call,
     }
 }
 
@@ -82,9 +72,8 @@ pub(crate) fn deliver(
         × (out.new ≡ over content.now out.old) }
 {
     kept::write_at(out, 0, content);
-    let n = content.len() as u16;
     Answered {
-        answer: protocol::Taken::Read(label.number, label.writer, n),
+        answer: protocol::Taken::Read(label.number, label.writer, content.len() as u16),
         call: enter(call, 0),
     }
 }

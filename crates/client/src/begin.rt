@@ -3,11 +3,12 @@ ghost use Rattle.std.specs.Prelude.{◌≡◌, suc, ◌≤◌, ◌+◌, ◌*◌,
 ghost use Rattle.cluster.specs.Ranges.{top_length, top_number, most_servers};
 ghost use Rattle.protocol.specs.Values.{nonce_size};
 ghost use Rattle.protocol.specs.View.{nonce_place, candidates_place, candidate_slot, kept_size};
-ghost use Rattle.protocol.specs.ClientBytes.{fresh, begin_write_def, begin_read_def, give_up_def};
+ghost use Rattle.protocol.specs.ClientBytes.{fresh, give_up_def};
 ghost use Rattle.format.specs.Reading.{put};
-ghost use Rattle.client.specs.Answers.{stopped, started};
+ghost use Rattle.client.specs.Answers.{stopped, begun};
 ghost use Rattle.client.specs.Core.{core_write, core_read};
 
+use cluster::Refusal;
 use crate::{Party, kept, refusals, rounds};
 
 // What giving up answers, and the call after it.
@@ -18,73 +19,32 @@ pub struct Stopped {
 }
 
 // Giving up leaves no call in hand; the call number and the last stamp made stay.
-pub fn give_up_in(call: protocol::Call, party: Party) -> Stopped
-    ensures { stopped result ≡ give_up_def party.t party.client call }
+pub fn give_up_in(call: protocol::Call, party: Party) -> Result<Stopped, Refusal>
+    ensures { stopped call result ≡ give_up_def party.t party.client call }
 {
-    let tally = call.tally;
-    let round = tally.round;
-    let n = refusals::abort_refusal(party, call);
-    if n != 0 {
-        return Stopped {
-            answer: protocol::Aborted::Refused(n),
-            call: call,
-        };
-    }
-    let c = rounds::with_tally(call, rounds::fresh_tally(0));
-    if round == protocol::rounds::COMPLETE {
-        return Stopped {
-            answer: protocol::Aborted::InComplete,
-            call: c,
-        };
-    }
-    Stopped {
-        answer: protocol::Aborted::Before,
-        call: c,
-    }
-}
-
-// What beginning a call answers, and the call after it.
-#[derive(Clone, Copy)]
-pub struct Started {
-    pub outcome: cluster::Outcome,
-    pub call: protocol::Call,
-}
-
-// A refusal, which changes nothing.
-fn not_begun(number: u8, call: protocol::Call) -> Started
-    ensures { result ≡ record { outcome = record { number = number; count = 0 }; call = call } }
-{
-    Started {
-        outcome: cluster::Outcome {
-            number: number,
-            count: 0,
-        },
-        call: call,
-    }
+    refusals::abort_refusal(party, call)?;
+    let answer = if call.tally.round == protocol::rounds::COMPLETE {
+        protocol::Aborted::InComplete
+    } else {
+        protocol::Aborted::Before
+    };
+    Ok(Stopped {
+        answer,
+        call: rounds::with_tally(call, rounds::fresh_tally(0)),
+    })
 }
 
 // The next call, in its first round.
-fn next_call(call: protocol::Call, high: u32, length: u16, round: u8) -> Started
+fn next_call(call: protocol::Call, high: u32, length: u16, round: u8) -> protocol::Call
     requires { call.number + 1 ≤ top_number }
-    ensures { result ≡ record {
-      outcome = record { number = 0; count = 0 };
-      call = record { number = suc call.number; last = call.last; high = high; length = length; tally = fresh round };
-    } }
+    ensures { result ≡ record { number = suc call.number; last = call.last; high = high; length = length; tally = fresh round } }
 {
-    let tally = rounds::fresh_tally(round);
-    let c = protocol::Call {
+    protocol::Call {
         number: call.number + 1,
-        last: call.last,
-        high: high,
-        length: length,
-        tally: tally,
-    };
-    Started {
-        outcome: cluster::Outcome {
-            number: 0,
-            count: 0,
-        },
-        call: c,
+        high,
+        length,
+        tally: rounds::fresh_tally(round),
+        ..call
     }
 }
 
@@ -104,38 +64,20 @@ pub fn begin_write_in(
     party: Party,
     content: &[u8],
     nonce: &[u8; cluster::KEY],
-) -> Started
-    ensures { (result ≡ started (core_write party.t party.client call kept.old content.now nonce.now))
-        × (kept.new ≡ (core_write party.t party.client call kept.old content.now nonce.now).kept) }
+) -> Result<protocol::Call, Refusal>
+    ensures { begun call result kept.new ≡ core_write party.t party.client call kept.old content.now nonce.now }
 {
     if kept.len() != wire::kept::KEPT {
-        return not_begun(cluster::WRONG_SIZE, call);
+        return Err(Refusal::WrongSize);
     }
-    let n = refusals::write_refusal(party, content.len(), call);
-    if n != 0 {
-        return not_begun(n, call);
-    }
+    refusals::write_refusal(party, content.len(), call)?;
     keep_write(kept, content, nonce);
-    next_call(
+    Ok(next_call(
         call,
         call.last,
         content.len() as u16,
         protocol::rounds::CLOCK,
-    )
-}
-
-// The call goes on by value, the kept bytes by their array.
-pub(crate) fn write_by_value(
-    call: protocol::Call,
-    kept: &mut [u8; wire::kept::KEPT],
-    party: Party,
-    content: &[u8],
-    nonce: &[u8; cluster::KEY],
-) -> Started
-    ensures { (result ≡ started (begin_write_def party.t party.client call kept.old content.now nonce.now))
-        × (kept.new ≡ (begin_write_def party.t party.client call kept.old content.now nonce.now).kept) }
-{
-    begin_write_in(call, kept, party, content, nonce)
+    ))
 }
 
 // Every candidate's slot becomes blank.
@@ -148,28 +90,22 @@ fn clear_slots(kept: &mut [u8])
 }
 
 // Lines 137 to 140.
-pub fn begin_read_in(call: protocol::Call, kept: &mut [u8], party: Party) -> Started
-    ensures { (result ≡ started (core_read party.t party.client call kept.old))
-        × (kept.new ≡ (core_read party.t party.client call kept.old).kept) }
+pub fn begin_read_in(
+    call: protocol::Call,
+    kept: &mut [u8],
+    party: Party,
+) -> Result<protocol::Call, Refusal>
+    ensures { begun call result kept.new ≡ core_read party.t party.client call kept.old }
 {
     if kept.len() != wire::kept::KEPT {
-        return not_begun(cluster::WRONG_SIZE, call);
+        return Err(Refusal::WrongSize);
     }
-    let n = refusals::read_refusal(party, call);
-    if n != 0 {
-        return not_begun(n, call);
-    }
+    refusals::read_refusal(party, call)?;
     clear_slots(kept);
-    next_call(call, call.high, call.length, protocol::rounds::COLLECT)
-}
-
-pub(crate) fn read_by_value(
-    call: protocol::Call,
-    kept: &mut [u8; wire::kept::KEPT],
-    party: Party,
-) -> Started
-    ensures { (result ≡ started (begin_read_def party.t party.client call kept.old))
-        × (kept.new ≡ (begin_read_def party.t party.client call kept.old).kept) }
-{
-    begin_read_in(call, kept, party)
+    Ok(next_call(
+        call,
+        call.high,
+        call.length,
+        protocol::rounds::COLLECT,
+    ))
 }

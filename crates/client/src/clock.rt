@@ -1,6 +1,6 @@
 // The clock round: the highest stamp number that a quorum knows, and the write under the next one.
 ghost use Rattle.std.specs.Prelude.{◌≡◌, List, [], ◌∷◌, ◌&&◌, ℕ, suc, ◌≤◌, ◌<◌, leb, ltb, length};
-ghost use Rattle.cluster.specs.Refusals.{refuse, first_of};
+ghost use Rattle.cluster.specs.Refusals.{refuse, first_of, number_told};
 ghost use Rattle.cluster.specs.Ranges.{top_faults, top_client, top_number, content_room};
 ghost use Rattle.protocol.specs.declared.Taken.TheVariants as taken;
 ghost use Rattle.protocol.specs.View.{kept_size};
@@ -8,54 +8,33 @@ ghost use Rattle.protocol.specs.ClientBytes.{fresh};
 ghost use Rattle.wire.specs.Reads.{TookPacket};
 ghost use Rattle.client.specs.Steps.{write_made, Ready, TakesAs};
 
+use cluster::Refusal;
 use crate::answers::Answered;
 use crate::{Party, answers, prepare, rounds, stamps};
-
-// The call with the highest number so far.
-fn with_high(call: protocol::Call, high: u32) -> protocol::Call
-    ensures { result ≡ record { number = call.number; last = call.last; high = high; length = call.length; tally = call.tally } }
-{
-    let mut c = call;
-    c.high = high;
-    c
-}
 
 // Store begins, with the number of the stamp made.
 fn enter_store(call: protocol::Call, high: u32) -> protocol::Call
     requires { high < top_number }
     ensures { result ≡ record { number = call.number; last = suc high; high = call.high; length = call.length; tally = fresh 2 } }
 {
-    let tally = rounds::fresh_tally(protocol::rounds::STORE);
     protocol::Call {
-        number: call.number,
         last: high + 1,
-        high: call.high,
-        length: call.length,
-        tally: tally,
+        tally: rounds::fresh_tally(protocol::rounds::STORE),
+        ..call
     }
 }
 
-// The stamp's number would pass its top, and the reply ends the round.
-fn is_over(ends: bool, high: u32) -> bool
-    ensures { result ≡ (ends && leb top_number high) }
+// The stamp's number would pass its top, and the reply ends the round; or the output has too little room.
+fn clock_refusal(ends: bool, high: u32, room: usize) -> Result<(), Refusal>
+    ensures { number_told result ≡ first_of (refuse 14 (ends && leb top_number high) ∷ refuse 15 (ltb room content_room) ∷ []) }
 {
-    if ends {
-        return cluster::TOP_NUMBER <= high as usize;
-    }
-    false
-}
-
-// 14, 15.
-fn clock_refusal(ends: bool, high: u32, room: usize) -> u8
-    ensures { result ≡ first_of (refuse 14 (ends && leb top_number high) ∷ refuse 15 (ltb room content_room) ∷ []) }
-{
-    if is_over(ends, high) {
-        return cluster::refusals::NUMBERS;
+    if ends && cluster::TOP_NUMBER <= high as usize {
+        return Err(Refusal::Numbers);
     }
     if room < cluster::CONTENT_ROOM {
-        return cluster::refusals::ROOM;
+        return Err(Refusal::Room);
     }
-    0
+    Ok(())
 }
 
 // The reply that ends the round: the write is made under the next number.
@@ -95,7 +74,7 @@ pub(crate) fn take_clock(
     passed: wire::packet::Passed,
     reply: &[u8],
     room: usize,
-) -> Answered
+) -> Result<Answered, Refusal>
     requires { Ready party.t party.client call reply.now passed.head × ((call.tally.round ≡ 1) × ((length kept.old ≡ kept_size)
         × TookPacket reply.now passed.head passed.label passed.number)) }
     ensures { (output : List ℕ) → length output ≡ room
@@ -103,18 +82,16 @@ pub(crate) fn take_clock(
         output result kept.new output }
 {
     let body = wire::bytes::rest(reply, wire::sizes::HEAD);
-    let label = passed.label;
-    let high = stamps::higher(writers, call.high, label.number, body);
-    let head = passed.head;
-    let server = head.server as usize;
-    let noted = answers::note_reply(with_high(call, high), party.t, server);
+    let high = stamps::higher(writers, call.high, passed.label.number, body);
+    let noted = answers::note_reply(
+        protocol::Call { high, ..call },
+        party.t,
+        passed.head.server as usize,
+    );
     let ends = rounds::is_full(party.t, noted.tally);
-    let n = clock_refusal(ends, high, room);
-    if n != 0 {
-        return answers::refused(n, call);
-    }
+    clock_refusal(ends, high, room)?;
     if ends {
-        return end_clock(call, kept, party, writers, keys, high);
+        return Ok(end_clock(call, kept, party, writers, keys, high));
     }
-    answers::more(noted)
+    Ok(answers::more(noted))
 }

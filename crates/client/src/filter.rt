@@ -1,5 +1,5 @@
 // The filter round: a reply is kept, and once a quorum has replied the round is decided.
-ghost use Rattle.std.specs.Prelude.{◌≡◌, List, ℕ, suc, ◌≤◌, ◌<◌, ◌+◌, ◌*◌, ◌-◌, length};
+ghost use Rattle.std.specs.Prelude.{◌≡◌, Ok, List, ℕ, suc, ◌≤◌, ◌<◌, ◌+◌, ◌*◌, ◌-◌, length};
 ghost use Rattle.cluster.specs.Config.{shelf};
 ghost use Rattle.cluster.specs.Ranges.{top_faults, top_length, most_servers, content_room};
 ghost use Rattle.protocol.specs.declared.Taken.TheVariants as taken;
@@ -64,9 +64,10 @@ fn put_repair(bytes: &mut [u8], kept: &[u8], led: Led, n: usize)
 fn repairing(call: protocol::Call, n: u16) -> Answered
     ensures { result ≡ record { answer = taken.More; call = repair_call call n } }
 {
-    let mut c = call;
-    c.length = n;
-    answers::more(answers::enter(c, protocol::rounds::REPAIR))
+    answers::more(answers::enter(
+        protocol::Call { length: n, ..call },
+        protocol::rounds::REPAIR,
+    ))
 }
 
 // Line 155. Amended: the content waits, and the candidate has the tags of the proven group.
@@ -107,7 +108,7 @@ fn found(
 ) -> Answered
     requires { (led.t ≤ top_faults) × ((led.slot < most_servers) × ((1 ≤ led.server) × ((led.server ≤ most_servers)
         × ((length kept.old ≡ kept_size) × ((length content.now ≤ top_length) × (content_room ≤ length out.old)))))) }
-    ensures { answered result kept.new out.new
+    ensures { answered call (Ok result) kept.new out.new
         ≡ found_at led.t call kept.old out.old led.slot led.server content.now }
 {
     if decide::same_tags(kept, led.t, led.slot, led.server) {
@@ -120,15 +121,11 @@ fn found(
 // Lines 142 to 146: what the round has decided. The content stands apart until it is delivered, so that repair leaves the output as it was.
 fn judge(call: protocol::Call, kept: &mut [u8], t: usize, out: &mut [u8]) -> Answered
     requires { (1 ≤ t) × ((t ≤ top_faults) × ((length kept.old ≡ kept_size) × (content_room ≤ length out.old))) }
-    ensures { answered result kept.new out.new
+    ensures { answered call (Ok result) kept.new out.new
         ≡ judged_in t call kept.old out.old }
 {
-    let tally = call.tally;
-    let marks = tally.marks;
     let mut room = [0u8; cluster::CONTENT_ROOM];
-    let decision = decide::decide(kept, marks, t, &mut room);
-    match decision {
-        decide::Decision::Refused(n) => answers::refused(n, call),
+    match decide::decide(kept, call.tally.marks, t, &mut room).unwrap() {
         decide::Decision::Wait => answers::more(call),
         decide::Decision::Blank => Answered {
             answer: protocol::Taken::Blank,
@@ -136,8 +133,7 @@ fn judge(call: protocol::Call, kept: &mut [u8], t: usize, out: &mut [u8]) -> Ans
         },
         decide::Decision::Found(slot, server, n) => {
             let content = wire::bytes::part(&room, 0, n);
-            let led = Led { t, slot, server };
-            found(call, kept, led, content, out)
+            found(call, kept, Led { t, slot, server }, content, out)
         }
     }
 }
@@ -154,7 +150,7 @@ pub(crate) fn take_filter(
     requires { Ready party.t party.client call reply.now head × ((call.tally.round ≡ 5) × ((length kept.old ≡ kept_size)
         × (content_room ≤ length out.old))) }
     ensures { (writers : List ℕ) (keys : List (List ℕ))
-        → TakesAs party.t party.client writers keys call kept.old reply.now out.old result kept.new
+        → TakesAs party.t party.client writers keys call kept.old reply.now out.old (Ok result) kept.new
         out.new }
 {
     let server = head.server as usize;

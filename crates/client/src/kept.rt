@@ -32,11 +32,7 @@ pub(crate) fn chosen_label(kept: &[u8], t: usize) -> protocol::Label
 fn content_length(call: protocol::Call) -> usize
     ensures { (result ≡ cond (leb call.length top_length) call.length top_length) × (result ≤ top_length) }
 {
-    let n = call.length as usize;
-    if n <= cluster::TOP_LENGTH {
-        return n;
-    }
-    cluster::TOP_LENGTH
+    usize::from(call.length).min(cluster::TOP_LENGTH)
 }
 
 // The content of a write, or the one that repair will deliver.

@@ -3,10 +3,13 @@
 #![tactic(auto)]
 
 ghost use Rattle.std.specs.Prelude.{◌≡◌};
+ghost use Rattle.cluster.specs.Refusals.{done_told, outcome_told};
 ghost use Rattle.protocol.specs.Primitives.{real};
-ghost use Rattle.protocol.specs.Answers.{taken_answer, aborted_answer};
+ghost use Rattle.client.specs.Answers.{taken_told, aborted_told};
 ghost use Rattle.protocol.specs.ClientBytes.{begin_write_def, begin_read_def, client_make, client_take, give_up_def};
 ghost use Rattle.protocol.specs.ClientBytes.{new_call_def};
+
+use cluster::Refusal;
 
 pub mod refusals; // which number refuses a step
 mod rounds; // the tally of a round
@@ -59,13 +62,12 @@ pub fn begin_write(
     party: Party,
     content: &[u8],
     nonce: &[u8; cluster::KEY],
-) -> cluster::Outcome
-    ensures { record { result = result; call = call.new; kept = kept.new }
+) -> Result<(), Refusal>
+    ensures { record { result = done_told result; call = call.new; kept = kept.new }
         ≡ begin_write_def party.t party.client call.old kept.old content.now nonce.now }
 {
-    let s = begin::write_by_value(*call, kept, party, content, nonce);
-    *call = s.call;
-    s.outcome
+    *call = begin::begin_write_in(*call, kept, party, content, nonce)?;
+    Ok(())
 }
 
 // A read begins.
@@ -73,13 +75,12 @@ pub fn begin_read(
     call: &mut protocol::Call,
     kept: &mut [u8; wire::kept::KEPT],
     party: Party,
-) -> cluster::Outcome
-    ensures { record { result = result; call = call.new; kept = kept.new }
+) -> Result<(), Refusal>
+    ensures { record { result = done_told result; call = call.new; kept = kept.new }
         ≡ begin_read_def party.t party.client call.old kept.old }
 {
-    let s = begin::read_by_value(*call, kept, party);
-    *call = s.call;
-    s.outcome
+    *call = begin::begin_read_in(*call, kept, party)?;
+    Ok(())
 }
 
 // A reply is taken.
@@ -91,23 +92,23 @@ pub fn take(
     keys: &[[u8; cluster::KEY]; cluster::MOST_SERVERS],
     reply: &[u8],
     out: &mut [u8],
-) -> protocol::Taken
-    ensures { record { answer = taken_answer result; call = call.new; kept = kept.new; output = out.new }
+) -> Result<protocol::Taken, Refusal>
+    ensures { record { answer = taken_told result; call = call.new; kept = kept.new; output = out.new }
         ≡ client_take real party.t party.client writers.now keys.now call.old kept.old
         reply.now out.old }
 {
-    let s = taking::take_by_value(*call, kept, party, writers, keys, reply, out);
-    *call = s.call;
-    s.answer
+    let taken = taking::take_in(*call, kept, party, writers, keys, reply, out)?;
+    *call = taken.call;
+    Ok(taken.answer)
 }
 
 // The pending call is given up.
-pub fn give_up(call: &mut protocol::Call, party: Party) -> protocol::Aborted
-    ensures { record { answer = aborted_answer result; call = call.new } ≡ give_up_def party.t party.client call.old }
+pub fn give_up(call: &mut protocol::Call, party: Party) -> Result<protocol::Aborted, Refusal>
+    ensures { record { answer = aborted_told result; call = call.new } ≡ give_up_def party.t party.client call.old }
 {
-    let s = begin::give_up_in(*call, party);
-    *call = s.call;
-    s.answer
+    let stopped = begin::give_up_in(*call, party)?;
+    *call = stopped.call;
+    Ok(stopped.answer)
 }
 
 // The packet of the pending round for a server.
@@ -117,8 +118,8 @@ pub fn make(
     party: Party,
     server: usize,
     out: &mut [u8],
-) -> cluster::Outcome
-    ensures { record { result = result; output = out.new }
+) -> Result<usize, Refusal>
+    ensures { record { result = outcome_told result; output = out.new }
         ≡ client_make party.t party.client server call kept.now out.old }
 {
     packets::make_in(call, kept, party, server, out)

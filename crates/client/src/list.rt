@@ -36,12 +36,9 @@ pub(crate) fn put_list(out: &mut [u8], at: usize, kept: &[u8], t: usize) -> usiz
     ensures { Wrote out.old at
         (print_many (candidate_f (shelf t)) (gather (candidates_in (shelf t) kept.now) (shelf t).servers)) out.new result }
 {
-    let s = refusals::servers(t);
     let mut next = at;
-    let mut i = 0;
-    while i < s {
+    for i in 0..refusals::servers(t) {
         next = put_entry(out, next, kept, t, i);
-        i += 1;
     }
     next
 }

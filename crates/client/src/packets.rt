@@ -2,6 +2,7 @@
 ghost use Rattle.std.specs.Prelude.{◌≡◌, true, [], ◌++◌, ◌≤◌, ◌-◌, length};
 ghost use Rattle.cluster.specs.Config.{shelf};
 ghost use Rattle.cluster.specs.Ranges.{top_faults, top_client, most_servers, packet_room};
+ghost use Rattle.cluster.specs.Refusals.{outcome_told};
 ghost use Rattle.protocol.specs.Packet.{head_f, stamp_f, share_f, candidate_f, candidates_f, encode};
 ghost use Rattle.protocol.specs.Client.{made};
 ghost use Rattle.protocol.specs.ClientBytes.{in_hand};
@@ -11,6 +12,7 @@ ghost use Rattle.wire.specs.Places.{share_size_def};
 ghost use Rattle.client.specs.Core.{core_make};
 ghost use Rattle.client.specs.Steps.{whole_packet};
 
+use cluster::Refusal;
 use crate::{Party, kept, list, refusals};
 
 // The head of a packet of a kind.
@@ -19,7 +21,7 @@ fn head_of(call: protocol::Call, kind: u8, party: Party, server: usize) -> proto
     ensures { result ≡ record { kind = kind; client = party.client; server = server; t = party.t; call = call.number } }
 {
     protocol::Head {
-        kind: kind,
+        kind,
         client: party.client as u8,
         server: server as u8,
         t: party.t as u8,
@@ -32,8 +34,7 @@ fn share_size(t: usize, n: u32) -> usize
     requires { t ≤ top_faults }
     ensures { result ≡ share_size_def (shelf t) n }
 {
-    let u = t as u8;
-    wire::sizes::share_size(u, n)
+    wire::sizes::share_size(t as u8, n)
 }
 
 // A packet without a body.
@@ -41,8 +42,7 @@ fn make_empty(head: protocol::Head, out: &mut [u8]) -> cluster::Outcome
     requires { packet_room ≤ length out.old }
     ensures { record { result = result; output = out.new } ≡ whole_packet (head_f.print head ++ ([] ++ [])) out.old }
 {
-    let none: [u8; 0] = [];
-    wire::make::make_packet(head, &none, &none, out)
+    wire::make::make_packet(head, &[], &[], out)
 }
 
 // A packet with the chosen candidate.
@@ -52,11 +52,10 @@ fn make_chosen(head: protocol::Head, kept: &[u8], t: usize, out: &mut [u8]) -> c
         ≡ whole_packet (head_f.print head ++ ((candidate_f (shelf t)).print (chosen_of (shelf t) kept.now) ++ [])) out.old }
 {
     let chosen = wire::bytes::part(kept, wire::kept::CHOSEN, wire::kept::CANDIDATE_SLOT);
-    let none: [u8; 0] = [];
     wire::make::make_packet(
         head,
         wire::bytes::part(chosen, 0, wire::sizes::candidate_size(t as u8)),
-        &none,
+        &[],
         out,
     )
 }
@@ -98,8 +97,7 @@ fn make_plain(
     ensures { record { result = result; output = out.new } ≡ whole_packet
         (encode (made party.t party.client (view (shelf party.t) call kept.now) server)) out.old }
 {
-    let tally = call.tally;
-    let round = tally.round;
+    let round = call.tally.round;
     let head = head_of(call, refusals::request_kind(round), party, server);
     match round {
         protocol::rounds::STORE => make_store(head, kept, party.t, server, out),
@@ -141,9 +139,7 @@ fn make_round(
     ensures { record { result = result; output = out.new } ≡ whole_packet
         (encode (made party.t party.client (view (shelf party.t) call kept.now) server)) out.old }
 {
-    let tally = call.tally;
-    let round = tally.round;
-    if round == protocol::rounds::FILTER {
+    if call.tally.round == protocol::rounds::FILTER {
         return make_filter(
             head_of(call, protocol::kinds::FILTER, party, server),
             kept,
@@ -154,23 +150,20 @@ fn make_round(
     make_plain(call, kept, party, server, out)
 }
 
-// A refusal, which writes nothing; or the packet.
+// A refusal, which writes nothing; or the packet's length.
 pub fn make_in(
     call: protocol::Call,
     kept: &[u8],
     party: Party,
     server: usize,
     out: &mut [u8],
-) -> cluster::Outcome
-    ensures { record { result = result; output = out.new }
+) -> Result<usize, Refusal>
+    ensures { record { result = outcome_told result; output = out.new }
         ≡ core_make party.t party.client server call kept.now out.old }
 {
     if kept.len() != wire::kept::KEPT {
-        return cluster::refused(cluster::WRONG_SIZE);
+        return Err(Refusal::WrongSize);
     }
-    let n = refusals::make_refusal(party, server, call, out.len());
-    if n != 0 {
-        return cluster::refused(n);
-    }
-    make_round(call, kept, party, server, out)
+    refusals::make_refusal(party, server, call, out.len())?;
+    Ok(make_round(call, kept, party, server, out).count)
 }

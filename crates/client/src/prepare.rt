@@ -44,10 +44,8 @@ fn put_write(
         (stamp.now ++ (nonce.bytes ++ tags.now)))
         (content_of call kept.old) nonce.digest tags.now }
 {
-    let bytes = nonce.bytes;
-    put_candidate(kept, stamp, &bytes, tags);
-    let digest = nonce.digest;
-    shares::put_offer(kept, call, t, digest, tags);
+    put_candidate(kept, stamp, &nonce.bytes, tags);
+    shares::put_offer(kept, call, t, nonce.digest, tags);
 }
 
 // The tags are made once, for the candidate and for all shares.

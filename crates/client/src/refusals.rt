@@ -1,26 +1,19 @@
-// Which number refuses a step, 0 for none. Each is a function of numbers; the tests stand in document 01's order.
+// What refuses a step. Each is a function of numbers; the tests stand in document 01's order.
 ghost use Rattle.std.specs.Prelude.{◌≡◌, ◌≤◌, ◌-◌, ◌*◌};
 ghost use Rattle.cluster.specs.Config.{shelf};
 ghost use Rattle.cluster.specs.Ranges.{top_faults};
+ghost use Rattle.cluster.specs.Refusals.{number_told};
 ghost use Rattle.protocol.specs.Client.{bad_client_def, of_write, write_refusal_def, read_refusal_def, make_refusal_def, abort_refusal_def};
 ghost use Rattle.protocol.specs.ClientBytes.{in_hand, awaited};
 
+use cluster::Refusal;
 use crate::Party;
 
 // A call is in hand.
 fn is_pending(call: protocol::Call) -> bool
     ensures { result ≡ in_hand call }
 {
-    let tally = call.tally;
-    let round = tally.round as usize;
-    if cluster::outside(
-        protocol::rounds::CLOCK as usize,
-        protocol::rounds::REPAIR as usize,
-        round,
-    ) {
-        return false;
-    }
-    true
+    (protocol::rounds::CLOCK..=protocol::rounds::REPAIR).contains(&call.tally.round)
 }
 
 // The kind of a round's request; its reply has the next.
@@ -36,8 +29,7 @@ pub(crate) fn awaited_kind(call: protocol::Call) -> u8
     ensures { result ≡ awaited call }
 {
     if is_pending(call) {
-        let tally = call.tally;
-        return request_kind(tally.round) + 1;
+        return request_kind(call.tally.round) + 1;
     }
     0
 }
@@ -46,54 +38,52 @@ pub(crate) fn awaited_kind(call: protocol::Call) -> u8
 pub(crate) fn bad_client(kind: u8, client: usize) -> bool
     ensures { result ≡ bad_client_def (of_write kind) client }
 {
-    let k = kind as usize;
-    if cluster::outside(
-        protocol::kinds::CLOCK_REPLY as usize,
-        protocol::kinds::COMPLETE_REPLY as usize,
-        k,
-    ) {
-        return cluster::outside(1, cluster::TOP_CLIENT, client);
-    }
-    cluster::outside(1, cluster::TOP_WRITER, client)
+    let writes = (protocol::kinds::CLOCK_REPLY..=protocol::kinds::COMPLETE_REPLY).contains(&kind);
+    let top = if writes {
+        cluster::TOP_WRITER
+    } else {
+        cluster::TOP_CLIENT
+    };
+    cluster::outside(1, top, client)
 }
 
-pub(crate) fn write_refusal(party: Party, n: usize, call: protocol::Call) -> u8
-    ensures { result ≡ write_refusal_def (shelf party.t) party.client n (in_hand call) call.number }
+pub(crate) fn write_refusal(party: Party, n: usize, call: protocol::Call) -> Result<(), Refusal>
+    ensures { number_told result ≡ write_refusal_def (shelf party.t) party.client n (in_hand call) call.number }
 {
     if cluster::outside(1, cluster::TOP_FAULTS, party.t) {
-        return cluster::refusals::FAULTS;
+        return Err(Refusal::Faults);
     }
     if cluster::outside(1, cluster::TOP_WRITER, party.client) {
-        return cluster::refusals::CLIENT;
+        return Err(Refusal::Client);
     }
     if n > cluster::TOP_LENGTH {
-        return cluster::refusals::LENGTH;
+        return Err(Refusal::Length);
     }
     if is_pending(call) {
-        return cluster::refusals::HAND;
+        return Err(Refusal::Hand);
     }
     if cluster::TOP_NUMBER <= call.number as usize {
-        return cluster::refusals::NUMBERS;
+        return Err(Refusal::Numbers);
     }
-    0
+    Ok(())
 }
 
-pub(crate) fn read_refusal(party: Party, call: protocol::Call) -> u8
-    ensures { result ≡ read_refusal_def (shelf party.t) party.client (in_hand call) call.number }
+pub(crate) fn read_refusal(party: Party, call: protocol::Call) -> Result<(), Refusal>
+    ensures { number_told result ≡ read_refusal_def (shelf party.t) party.client (in_hand call) call.number }
 {
     if cluster::outside(1, cluster::TOP_FAULTS, party.t) {
-        return cluster::refusals::FAULTS;
+        return Err(Refusal::Faults);
     }
     if cluster::outside(1, cluster::TOP_CLIENT, party.client) {
-        return cluster::refusals::CLIENT;
+        return Err(Refusal::Client);
     }
     if is_pending(call) {
-        return cluster::refusals::HAND;
+        return Err(Refusal::Hand);
     }
     if cluster::TOP_NUMBER <= call.number as usize {
-        return cluster::refusals::NUMBERS;
+        return Err(Refusal::Numbers);
     }
-    0
+    Ok(())
 }
 
 // S.
@@ -105,40 +95,40 @@ pub(crate) fn servers(t: usize) -> usize
 }
 
 // What refuses the packet of the pending round for a server.
-pub fn make_refusal(party: Party, server: usize, call: protocol::Call, room: usize) -> u8
-    ensures { result ≡ make_refusal_def (shelf party.t) party.client server (awaited call) room }
+pub fn make_refusal(party: Party, server: usize, call: protocol::Call, room: usize) -> Result<(), Refusal>
+    ensures { number_told result ≡ make_refusal_def (shelf party.t) party.client server (awaited call) room }
 {
     let kind = awaited_kind(call);
     if cluster::outside(1, cluster::TOP_FAULTS, party.t) {
-        return cluster::refusals::FAULTS;
+        return Err(Refusal::Faults);
     }
     if cluster::outside(1, servers(party.t), server) {
-        return cluster::refusals::SERVER;
+        return Err(Refusal::Server);
     }
     if bad_client(kind, party.client) {
-        return cluster::refusals::CLIENT;
+        return Err(Refusal::Client);
     }
     if kind == 0 {
-        return cluster::refusals::HAND;
+        return Err(Refusal::Hand);
     }
     if room < cluster::PACKET_ROOM {
-        return cluster::refusals::ROOM;
+        return Err(Refusal::Room);
     }
-    0
+    Ok(())
 }
 
-pub(crate) fn abort_refusal(party: Party, call: protocol::Call) -> u8
-    ensures { result ≡ abort_refusal_def (shelf party.t) party.client (awaited call) }
+pub(crate) fn abort_refusal(party: Party, call: protocol::Call) -> Result<(), Refusal>
+    ensures { number_told result ≡ abort_refusal_def (shelf party.t) party.client (awaited call) }
 {
     let kind = awaited_kind(call);
     if cluster::outside(1, cluster::TOP_FAULTS, party.t) {
-        return cluster::refusals::FAULTS;
+        return Err(Refusal::Faults);
     }
     if bad_client(kind, party.client) {
-        return cluster::refusals::CLIENT;
+        return Err(Refusal::Client);
     }
     if kind == 0 {
-        return cluster::refusals::HAND;
+        return Err(Refusal::Hand);
     }
-    0
+    Ok(())
 }

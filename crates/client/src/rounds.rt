@@ -1,5 +1,5 @@
 // The tally of a round: which servers have replied, how many, and whether they are a quorum. The marks decide; the count is made of them anew.
-ghost use Rattle.std.specs.Prelude.{◌≡◌, cond, not, ◌≤◌, leb, eqb};
+ghost use Rattle.std.specs.Prelude.{◌≡◌, ◌≤◌, leb};
 ghost use Rattle.cluster.specs.Config.{shelf, quorum};
 ghost use Rattle.cluster.specs.Ranges.{top_faults, most_servers};
 ghost use Rattle.protocol.specs.Rules.{count_to};
@@ -14,7 +14,7 @@ pub(crate) fn fresh_tally(round: u8) -> protocol::Tally
     ensures { result ≡ fresh round }
 {
     protocol::Tally {
-        round: round,
+        round,
         count: 0,
         marks: [0; cluster::MOST_SERVERS],
     }
@@ -23,19 +23,7 @@ pub(crate) fn fresh_tally(round: u8) -> protocol::Tally
 pub(crate) fn with_tally(call: protocol::Call, tally: protocol::Tally) -> protocol::Call
     ensures { result ≡ with_tally_def call tally }
 {
-    let mut c = call;
-    c.tally = tally;
-    c
-}
-
-// 1 for a mark.
-fn one_for(mark: u8) -> u8
-    ensures { result ≡ cond (not (eqb mark 0)) 1 0 }
-{
-    if mark == 0 {
-        return 0;
-    }
-    1
+    protocol::Call { tally, ..call }
 }
 
 // How many of the first n servers are marked.
@@ -43,11 +31,11 @@ fn count(marks: [u8; cluster::MOST_SERVERS], n: usize) -> u8
     requires { n ≤ most_servers }
     ensures { result ≡ count_to n (marked marks) }
 {
-    let mut c: u8 = 0;
-    let mut i = 0;
-    while i < n {
-        c += one_for(marks[i]);
-        i += 1;
+    let mut c = 0;
+    for mark in &marks[..n] {
+        if *mark != 0 {
+            c += 1;
+        }
     }
     c
 }
@@ -57,20 +45,19 @@ pub(crate) fn recount(t: usize, tally: protocol::Tally) -> protocol::Tally
     requires { t ≤ top_faults }
     ensures { result ≡ counted (shelf t) tally }
 {
-    let mut y = tally;
-    let marks = y.marks;
-    y.count = count(marks, refusals::servers(t));
-    y
+    protocol::Tally {
+        count: count(tally.marks, refusals::servers(t)),
+        ..tally
+    }
 }
 
 // The server has replied in this round.
-pub(crate) fn note(t: usize, tally: protocol::Tally, server: usize) -> protocol::Tally
+pub(crate) fn note(t: usize, mut tally: protocol::Tally, server: usize) -> protocol::Tally
     requires { (t ≤ top_faults) × ((1 ≤ server) × (server ≤ most_servers)) }
     ensures { result ≡ noted (shelf t) tally server }
 {
-    let mut y = tally;
-    y.marks[server - 1] = 1;
-    recount(t, y)
+    tally.marks[server - 1] = 1;
+    recount(t, tally)
 }
 
 // A quorum has replied.
@@ -78,7 +65,7 @@ pub(crate) fn is_full(t: usize, tally: protocol::Tally) -> bool
     requires { t ≤ top_faults }
     ensures { result ≡ leb (quorum (shelf t)) tally.count }
 {
-    quorum(t) <= tally.count as usize
+    quorum(t) <= usize::from(tally.count)
 }
 
 // How many replies end a round.

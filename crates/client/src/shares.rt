@@ -51,11 +51,8 @@ fn put_fragments(kept: &mut [u8], digests: &mut [u8], call: protocol::Call, t: u
         (shelf t).servers)
         × (digests.new ≡ put digests.old 0 (digest_run t (content_of call kept.old) (shelf t).servers)) }
 {
-    let s = refusals::servers(t);
-    let mut i = 0;
-    while i < s {
+    for i in 0..refusals::servers(t) {
         put_fragment(kept, digests, call, t, i);
-        i += 1;
     }
 }
 
@@ -102,11 +99,8 @@ fn put_ends(kept: &mut [u8], t: usize, n: usize, common: &[u8])
 {
     let f = wire::sizes::fragment_size(t as u8, n as u32);
     let at = wire::kept::REPLIES + (wire::sizes::LENGTH + f);
-    let s = refusals::servers(t);
-    let mut i = 0;
-    while i < s {
+    for i in 0..refusals::servers(t) {
         kept::write_at(kept, at + wire::kept::REPLY_SLOT * i, common);
-        i += 1;
     }
 }
 

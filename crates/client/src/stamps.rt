@@ -64,11 +64,8 @@ pub(crate) fn put_tags(
     requires { (t ≤ top_faults) × (tag_size * (shelf t).servers ≤ length tags.old) }
     ensures { tags.new ≡ put tags.old 0 (tag_run keys.now stamp.now digest (shelf t).servers) }
 {
-    let s = refusals::servers(t);
-    let mut i = 0;
-    while i < s {
+    for i in 0..refusals::servers(t) {
         let tag = hmac::tag_with(keys[i], stamp, digest);
         kept::write_at(tags, hmac::TAG * i, &tag);
-        i += 1;
     }
 }

@@ -1,19 +1,19 @@
 // A reply is taken: the tests that refuse it, and then its round's step.
-ghost use Rattle.std.specs.Prelude.{◌≡◌, false, List, ℕ, ◌≤◌, ◌<◌, length};
+ghost use Rattle.std.specs.Prelude.{◌≡◌, Ok, false, List, ℕ, ◌≤◌, ◌<◌, length};
 ghost use Rattle.cluster.specs.Config.{shelf};
 ghost use Rattle.cluster.specs.Ranges.{content_room};
 ghost use Rattle.protocol.specs.Client.{bad_faults, bad_client_def, of_write};
-ghost use Rattle.protocol.specs.Primitives.{real};
 ghost use Rattle.protocol.specs.View.{kept_size};
-ghost use Rattle.protocol.specs.ClientBytes.{awaited, client_take};
+ghost use Rattle.protocol.specs.ClientBytes.{awaited};
 ghost use Rattle.wire.specs.Reads.{TookPacket};
 ghost use Rattle.client.specs.Answers.{answered};
 ghost use Rattle.client.specs.Core.{core_take};
 ghost use Rattle.client.specs.Steps.{Ready, TakesAs};
 
 use crate::answers::Answered;
-use crate::{Party, answers, clock, filter, kept, reads, refusals, replies, writes};
-use wire::packet::{PacketRead, Passed};
+use crate::{Party, clock, filter, kept, reads, refusals, replies, writes};
+use cluster::Refusal;
+use wire::packet::Passed;
 
 // The rounds of a write past clock: store, and complete.
 fn take_write_round(
@@ -26,13 +26,10 @@ fn take_write_round(
     requires { Ready party.t party.client call reply.now passed.head × ((1 < call.tally.round) × ((call.tally.round < 4)
         × TookPacket reply.now passed.head passed.label passed.number)) }
     ensures { (writers : List ℕ) (keys : List (List ℕ)) (output : List ℕ) → content_room ≤ length output
-        → TakesAs party.t party.client writers keys call kept.now reply.now output result kept.now output }
+        → TakesAs party.t party.client writers keys call kept.now reply.now output (Ok result) kept.now output }
 {
-    let tally = call.tally;
-    let round = tally.round;
-    let head = passed.head;
-    let server = head.server as usize;
-    if round == protocol::rounds::STORE {
+    let server = usize::from(passed.head.server);
+    if call.tally.round == protocol::rounds::STORE {
         return writes::take_store(call, party.t, server, passed.number as u8);
     }
     writes::take_complete(call, kept, party.t, server)
@@ -50,13 +47,11 @@ fn take_read_round(
     requires { Ready party.t party.client call reply.now head × ((4 ≤ call.tally.round)
         × ((length kept.old ≡ kept_size) × (content_room ≤ length out.old))) }
     ensures { (writers : List ℕ) (keys : List (List ℕ))
-        → TakesAs party.t party.client writers keys call kept.old reply.now out.old result kept.new
+        → TakesAs party.t party.client writers keys call kept.old reply.now out.old (Ok result) kept.new
         out.new }
 {
-    let tally = call.tally;
-    let round = tally.round;
-    let server = head.server as usize;
-    match round {
+    let server = usize::from(head.server);
+    match call.tally.round {
         protocol::rounds::COLLECT => reads::take_collect(
             call,
             kept,
@@ -79,24 +74,30 @@ fn take_round(
     passed: Passed,
     reply: &[u8],
     out: &mut [u8],
-) -> Answered
+) -> Result<Answered, Refusal>
     requires { Ready party.t party.client call reply.now passed.head × ((length kept.old ≡ kept_size)
         × TookPacket reply.now passed.head passed.label passed.number) }
     ensures { TakesAs party.t party.client writers.now keys.now call kept.old reply.now
         out.old result kept.new out.new }
 {
-    let tally = call.tally;
-    let round = tally.round;
+    let round = call.tally.round;
     if round == protocol::rounds::CLOCK {
         return clock::take_clock(call, kept, party, writers, keys, passed, reply, out.len());
     }
     if out.len() < cluster::CONTENT_ROOM {
-        return answers::refused(cluster::refusals::ROOM, call);
+        return Err(Refusal::Room);
     }
     if round < protocol::rounds::COLLECT {
-        return take_write_round(call, kept, party, passed, reply);
+        return Ok(take_write_round(call, kept, party, passed, reply));
     }
-    take_read_round(call, kept, party, passed.head, reply, out)
+    Ok(take_read_round(
+        call,
+        kept,
+        party,
+        passed.head,
+        reply,
+        out,
+    ))
 }
 
 // 7, 8, 12, 13; then the round's step.
@@ -108,19 +109,14 @@ fn take_reply(
     keys: &[[u8; cluster::KEY]; cluster::MOST_SERVERS],
     reply: &[u8],
     out: &mut [u8],
-) -> Answered
+) -> Result<Answered, Refusal>
     requires { (bad_faults (shelf party.t) ≡ false) × ((bad_client_def (of_write (awaited call)) party.client ≡ false)
         × (length kept.old ≡ kept_size)) }
     ensures { TakesAs party.t party.client writers.now keys.now call kept.old reply.now
         out.old result kept.new out.new }
 {
-    let PacketRead::Value(passed) = wire::packet::read_packet(reply) else {
-        return answers::refused(cluster::refusals::LAYOUT, call);
-    };
-    let n = replies::reply_refusal(passed.head, call, party);
-    if n != 0 {
-        return answers::refused(n, call);
-    }
+    let passed = wire::packet::read_packet(reply).ok_or(Refusal::Layout)?;
+    replies::reply_refusal(passed.head, call, party)?;
     take_round(call, kept, party, writers, keys, passed, reply, out)
 }
 
@@ -133,36 +129,19 @@ pub fn take_in(
     keys: &[[u8; cluster::KEY]; cluster::MOST_SERVERS],
     reply: &[u8],
     out: &mut [u8],
-) -> Answered
-    ensures { answered result kept.new out.new
+) -> Result<Answered, Refusal>
+    ensures { answered call result kept.new out.new
         ≡ core_take party.t party.client writers.now keys.now call kept.old reply.now
         out.old }
 {
     if kept.len() != wire::kept::KEPT {
-        return answers::refused(cluster::WRONG_SIZE, call);
+        return Err(Refusal::WrongSize);
     }
     if cluster::outside(1, cluster::TOP_FAULTS, party.t) {
-        return answers::refused(cluster::refusals::FAULTS, call);
+        return Err(Refusal::Faults);
     }
     if refusals::bad_client(refusals::awaited_kind(call), party.client) {
-        return answers::refused(cluster::refusals::CLIENT, call);
+        return Err(Refusal::Client);
     }
     take_reply(call, kept, party, writers, keys, reply, out)
-}
-
-// The call goes on by value, the kept bytes by their array.
-pub(crate) fn take_by_value(
-    call: protocol::Call,
-    kept: &mut [u8; wire::kept::KEPT],
-    party: Party,
-    writers: &[u8; cluster::KEY],
-    keys: &[[u8; cluster::KEY]; cluster::MOST_SERVERS],
-    reply: &[u8],
-    out: &mut [u8],
-) -> Answered
-    ensures { answered result kept.new out.new
-        ≡ client_take real party.t party.client writers.now keys.now call kept.old reply.now
-        out.old }
-{
-    take_in(call, kept, party, writers, keys, reply, out)
 }

@@ -1,0 +1,37 @@
+-- A refusal leaves the call; else the round tells how far it had come. Nothing is assumed.
+use Rattle.std.proofs.Common.{◌≡◌, ◌∙◌, sym, refl, length, rules}
+use Rattle.std.proofs.lemmas.Result.{err_from_is_err_and}
+use borrow.Author.Tests.{eq-eqb, ne_eqb}
+use Rattle.cluster.proofs.Tests.{refused_is}
+use Rattle.cluster.specs.Config.{shelf}
+use Rattle.protocol.specs.Client.{abort_refusal_def}
+use Rattle.protocol.specs.ClientBytes.{awaited}
+use Rattle.client.specs.Rounds.{abort_by_rounds}
+use Rattle.client.proofs.StepsSame.{same_abort}
+use Rattle.decide.proofs.Arguments.{refusal_some}
+use Rattle.client.proofs.begin.give_up_in.Goals as goal
+use Rattle.client.proofs.begin.give_up_in.Goals.{then-call-eq-COMPLETE, else-call-eq-COMPLETE}
+
+pub returns-in_err-abort_refusal : goal.returns-in_err-abort_refusal
+unfolding abort_by_rounds
+returns-in_err-abort_refusal c =
+    let a = c.args in
+    let e = c.in_err-abort_refusal.ensures in
+    let p = err_from_is_err_and c.from_residual.result c.from_residual.ensures.1 in
+    rw (
+      p.1,
+      p.2,
+      same_abort a.party.t a.party.client a.call (search rules),
+      refused_is (abort_refusal_def (shelf a.party.t) a.party.client (awaited a.call)) _ _ (λ z. refusal_some c.in_err-abort_refusal.field-0.0 (e ∙ z)),
+      ← e,
+    ) refl
+
+pub returns : goal.returns
+unfolding abort_by_rounds
+returns c =
+    let a = c.args in
+    rw (c.with_tally.ensures, c.fresh_tally.ensures, same_abort a.party.t a.party.client a.call (search rules), ← c.in_ok-abort_refusal.ensures)
+    (elim c.if-call-eq-COMPLETE.branch [
+      then-call-eq-COMPLETE w ↦ rw (w.answer-is, eq-eqb a.call.tally.round 3 w.if-call-eq-COMPLETE.true) refl
+      | else-call-eq-COMPLETE w ↦ rw (w.answer-is, ne_eqb a.call.tally.round 3 w.if-call-eq-COMPLETE.false) refl
+    ])

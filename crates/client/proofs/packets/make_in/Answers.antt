@@ -1,0 +1,34 @@
+-- Each way to a return is one case of the definition. Nothing is assumed.
+use Rattle.std.proofs.Common.{◌≡◌, ◌∙◌, sym, ap}
+use Rattle.std.proofs.lemmas.Result.{err_from_is_err_and}
+use Rattle.protocol.specs.ClientBytes.{Filled}
+use Rattle.decide.proofs.Arguments.{refusal_some}
+use Rattle.client.specs.Steps.{whole_packet}
+use Rattle.client.proofs.Makes.{make_short, make-refused, make_goes, make-fits}
+use Rattle.client.proofs.packets.make_in.Goals as goal
+
+pub returns-then-kept-ne-KEPT : goal.returns-then-kept-ne-KEPT
+returns-then-kept-ne-KEPT c =
+    let a = c.args in sym (make_short a.party.t a.party.client a.server a.call a.kept.now a.out.now c.if-kept-ne-KEPT.true)
+
+pub returns-in_err-make_refusal : goal.returns-in_err-make_refusal
+returns-in_err-make_refusal c =
+    let a = c.args in
+    let p = err_from_is_err_and c.from_residual.result c.from_residual.ensures.1 in
+    rw (p.1, p.2) (sym (make-refused a.party.t a.party.client a.server a.call a.kept.now a.out.now c.if-kept-ne-KEPT.false _
+    c.in_err-make_refusal.ensures (refusal_some c.in_err-make_refusal.field-0.0)))
+
+pub make_round-requires : goal.make_round-requires
+make_round-requires c =
+    let a = c.args in
+    let f = make-fits a.party.t a.party.client a.server a.call a.kept.now a.out.now (sym c.in_ok-make_refusal.ensures) in
+    (f.0, (f.1.0, (f.1.1.0, (f.1.1.1.0, (f.1.1.1.1.0, (c.if-kept-ne-KEPT.false, (f.1.1.1.1.1.0, f.1.1.1.1.1.1)))))))
+
+pub returns : goal.returns
+unfolding whole_packet
+returns c =
+    let a = c.args in
+    let n : 0 ≡ c.make_round.result.number = sym (ap (λ (x : Filled). x.result.number) c.make_round.ensures) in
+    (λ i. record { result = record { number = n i; count = c.make_round.result.count }; output = c.make_round.new.out })
+    ∙ (c.make_round.ensures ∙ sym (make_goes a.party.t a.party.client a.server a.call a.kept.now a.out.now c.if-kept-ne-KEPT.false
+    (sym c.in_ok-make_refusal.ensures)))
