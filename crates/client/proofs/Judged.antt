@@ -5,7 +5,7 @@ use Rattle.std.specs.Prelude.{Result, Ok, Err, IsOk}
 use Rattle.cluster.specs.declared.Refusal.{Refusal}
 use Rattle.decide.specs.declared.Decision.{Decision}
 use mathlib.Core.Path.{◌≡◌, refl, sym, ap, ◌∙◌, subst}
-use mathlib.Core.Bool.{Bool, true, false, not}
+use mathlib.Core.Bool.{Bool, true, not}
 use mathlib.Core.List.{List, [], ◌∷◌, ◌++◌}
 use mathlib.Core.Option.{Option, none, some}
 use Prim.Native.Nat.{ℕ, zero, suc, ◌+◌, ◌-◌, ◌*◌, ◌≤◌, ◌<◌}
@@ -13,7 +13,7 @@ use native.Mathlib.Omega.{arith}
 use lib.Dec.{T, eqb}
 use lib.ListN.{length, drop}
 use lib.Seq.{take_at}
-use borrow.Author.Tests.{le-leb, le-ltb, eq-eqb, ne_eqb}
+use borrow.Author.Tests.{le-leb, le-ltb, eq-eqb}
 use Rattle.cluster.specs.Config.{shelf}
 use Rattle.cluster.specs.Ranges.{top_faults, content_room, most_servers, top_length}
 use Rattle.sha256.specs.Sha256.{sha256}
@@ -21,7 +21,7 @@ use Rattle.erasure.specs.Fragments.{fragment_size_def}
 use Rattle.protocol.specs.declared.Call.{Call}
 use Rattle.protocol.specs.declared.Tally.{Tally}
 use Rattle.protocol.specs.declared.Taken.TheVariants as taken
-use Rattle.protocol.specs.Answers.{refusals, taken_answer}
+use Rattle.protocol.specs.Answers.{taken_answer}
 use Rattle.format.specs.Format.{Bytes}
 use Rattle.protocol.specs.Values.{Candidate, Share, Held, stamp_size, nonce_size, digest_size, digests_size_def, tags_size_def}
 use Rattle.protocol.specs.Packet.{candidate_f, share_size_def}

@@ -1,6 +1,7 @@
 -- The starts of a write's shares and the digests of its fragments, as the code writes them. A fragment is cut out of the array that it was made in, an
 -- entry put after a run is the longer run put once, and runs that follow one another are their join. Assumes nothing.
-use mathlib.Core.Path.{◌≡◌, sym, ap, ◌∙◌}
+use Rattle.std.specs.Prelude.{Result, Ok, Err, IsOk}
+use mathlib.Core.Path.{◌≡◌, refl, sym, ap, ◌∙◌}
 use mathlib.Core.List.{List, ◌++◌, append_assoc}
 use Prim.Native.Nat.{ℕ, suc, ◌+◌, ◌*◌, ◌≤◌}
 use native.Mathlib.Omega.{arith}
@@ -12,8 +13,11 @@ use Rattle.cluster.specs.Config.{shelf}
 use Rattle.cluster.specs.Ranges.{top_faults, top_length}
 use Rattle.sha256.specs.Sha256.{sha256}
 use Rattle.erasure.specs.Fragments.{fragment, fragment_size_def}
-use Rattle.erasure.specs.declared.FragmentOutcome.{FragmentOutcome}
-use Rattle.erasure.specs.Steps.{fragment_step, fragment_refusal_def, fragment_bytes}
+use Rattle.erasure.specs.declared.FragmentBytes.{FragmentBytes}
+use Rattle.cluster.specs.declared.Refusal.{Refusal}
+use Rattle.cluster.specs.Refusals.{number_told}
+use Rattle.decide.proofs.Arguments.{told-ok}
+use Rattle.erasure.specs.Steps.{FragmentOutcome, fragment_told, fragment_step, fragment_refusal_def, fragment_bytes}
 use Rattle.format.specs.Format.{print2}
 use Rattle.protocol.specs.Values.{run_of, digest_size}
 use Rattle.protocol.specs.Primitives.{real}
@@ -68,9 +72,29 @@ module _ (t i : ℕ) (content : List ℕ) (low : 1 ≤ t) (high : t ≤ top_faul
       )
       (cut _)
 
-  -- the fragment, out of what making it gave
-  pub fragment-cut : (m : FragmentOutcome) → m ≡ fragment_step t (i + 1) content → bytes_at m.bytes 0 m.count ≡ piece
-  fragment-cut m e = rw (e, add-one i) step_cut
+  step-number : (fragment_step t (suc i) content).number ≡ 0
+  unfolding fragment_step fragment_refusal_def
+  step-number =
+      rw (
+        le-leb 1 t low,
+        le-leb t top_faults high,
+        le-leb 1 (suc i) (omega arith),
+        le-leb (suc i) (shelf t).servers within-s,
+        le-ltb top_length (length content) short,
+      ) refl
+
+  -- the fragment, out of what making it gave, which is no refusal
+  pub fragment-cut : (m : FragmentBytes) → fragment_told (Ok m) ≡ fragment_step t (i + 1) content → bytes_at m.bytes 0 m.count ≡ piece
+  fragment-cut m e =
+      ap (λ (x : FragmentOutcome). bytes_at x.bytes 0 x.count) (e ∙ ap (λ (k : ℕ). fragment_step t k content) (add-one i)) ∙ step_cut
+
+  pub fragment-ok : (r : Result FragmentBytes Refusal) → fragment_told r ≡ fragment_step t (i + 1) content → IsOk r
+  fragment-ok r e =
+      told-ok r (number r ∙ ap (λ (x : FragmentOutcome). x.number) (e ∙ ap (λ (k : ℕ). fragment_step t k content) (add-one i)) ∙ step-number)
+    where
+      number : (r : Result FragmentBytes Refusal) → number_told r ≡ (fragment_told r).number
+      number (Ok m) = refl
+      number (Err why) = refl
 
 -- ---- the starts of shares, and runs of digests
 

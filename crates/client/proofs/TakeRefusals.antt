@@ -14,8 +14,7 @@ use Rattle.cluster.specs.Ranges.{top_number, content_room}
 use Rattle.cluster.proofs.Tests.{and_both, passes, refused_is, accepted_is}
 use Rattle.protocol.specs.declared.Call.{Call}
 use Rattle.protocol.specs.declared.Head.{Head}
-use Rattle.protocol.specs.declared.Taken.TheVariants as taken
-use Rattle.protocol.specs.Answers.{bare, refusals, taken_answer}
+use Rattle.protocol.specs.Answers.{bare, refusals}
 use Rattle.protocol.specs.Packet.{Body, Packet, kind_of}
 use Rattle.protocol.specs.Primitives.{real}
 use Rattle.protocol.specs.Rules.{ByServer}

@@ -12,7 +12,6 @@ use Rattle.cluster.specs.Config.{Config, shelf}
 use Rattle.cluster.specs.Ranges.{within, most_servers}
 use Rattle.cluster.specs.Refusals.{on_refusal}
 use Rattle.protocol.specs.declared.Call.{Call}
-use Rattle.protocol.specs.declared.Taken.TheVariants as taken
 use Rattle.protocol.specs.Packet.{Body, Packet, PacketOk, decode}
 use Rattle.protocol.specs.Primitives.{Primitives}
 use Rattle.protocol.specs.Rules.{ByServer}

@@ -8,8 +8,8 @@ ghost use Rattle.format.specs.Reading.{put};
 ghost use Rattle.client.specs.Answers.{stopped, begun};
 ghost use Rattle.client.specs.Core.{core_write, core_read};
 
-use cluster::Refusal;
 use crate::{Party, kept, refusals, rounds};
+use cluster::Refusal;
 
 // What giving up answers, and the call after it.
 #[derive(Clone, Copy)]
@@ -102,10 +102,5 @@ pub fn begin_read_in(
     }
     refusals::read_refusal(party, call)?;
     clear_slots(kept);
-    Ok(next_call(
-        call,
-        call.high,
-        call.length,
-        protocol::rounds::COLLECT,
-    ))
+    Ok(next_call(call, call.high, call.length, protocol::rounds::COLLECT))
 }

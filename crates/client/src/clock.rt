@@ -8,9 +8,9 @@ ghost use Rattle.protocol.specs.ClientBytes.{fresh};
 ghost use Rattle.wire.specs.Reads.{TookPacket};
 ghost use Rattle.client.specs.Steps.{write_made, Ready, TakesAs};
 
-use cluster::Refusal;
 use crate::answers::Answered;
 use crate::{Party, answers, prepare, rounds, stamps};
+use cluster::Refusal;
 
 // Store begins, with the number of the stamp made.
 fn enter_store(call: protocol::Call, high: u32) -> protocol::Call

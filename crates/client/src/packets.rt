@@ -12,8 +12,8 @@ ghost use Rattle.wire.specs.Places.{share_size_def};
 ghost use Rattle.client.specs.Core.{core_make};
 ghost use Rattle.client.specs.Steps.{whole_packet};
 
-use cluster::Refusal;
 use crate::{Party, kept, list, refusals};
+use cluster::Refusal;
 
 // The head of a packet of a kind.
 fn head_of(call: protocol::Call, kind: u8, party: Party, server: usize) -> protocol::Head

@@ -6,8 +6,8 @@ ghost use Rattle.cluster.specs.Refusals.{number_told};
 ghost use Rattle.protocol.specs.Client.{bad_client_def, of_write, write_refusal_def, read_refusal_def, make_refusal_def, abort_refusal_def};
 ghost use Rattle.protocol.specs.ClientBytes.{in_hand, awaited};
 
-use cluster::Refusal;
 use crate::Party;
+use cluster::Refusal;
 
 // A call is in hand.
 fn is_pending(call: protocol::Call) -> bool
@@ -95,7 +95,12 @@ pub(crate) fn servers(t: usize) -> usize
 }
 
 // What refuses the packet of the pending round for a server.
-pub fn make_refusal(party: Party, server: usize, call: protocol::Call, room: usize) -> Result<(), Refusal>
+pub fn make_refusal(
+    party: Party,
+    server: usize,
+    call: protocol::Call,
+    room: usize,
+) -> Result<(), Refusal>
     ensures { number_told result ≡ make_refusal_def (shelf party.t) party.client server (awaited call) room }
 {
     let kind = awaited_kind(call);

@@ -5,8 +5,8 @@ ghost use Rattle.cluster.specs.Refusals.{number_told};
 ghost use Rattle.protocol.specs.View.{marked};
 ghost use Rattle.client.specs.Steps.{foreign, other, reply_refusal_def};
 
-use cluster::Refusal;
 use crate::{Party, refusals};
+use cluster::Refusal;
 
 // Another shelf's packet, or another client's.
 fn is_foreign(head: protocol::Head, party: Party) -> bool
@@ -32,7 +32,11 @@ fn is_other(head: protocol::Head, call: protocol::Call, kind: u8) -> bool
 }
 
 // 8, 12, 13.
-pub(crate) fn reply_refusal(head: protocol::Head, call: protocol::Call, party: Party) -> Result<(), Refusal>
+pub(crate) fn reply_refusal(
+    head: protocol::Head,
+    call: protocol::Call,
+    party: Party,
+) -> Result<(), Refusal>
     requires { (1 ≤ head.server) × (head.server ≤ most_servers) }
     ensures { number_told result ≡ reply_refusal_def party.t party.client call head }
 {

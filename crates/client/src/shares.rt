@@ -35,9 +35,8 @@ fn put_fragment(kept: &mut [u8], digests: &mut [u8], call: protocol::Call, t: us
 {
     let content = kept::content(kept, call);
     let n = content.len();
-    let made = erasure::fragment(t, i + 1, content);
-    let bytes = made.bytes;
-    let fragment = wire::bytes::part(&bytes, 0, made.count);
+    let made = erasure::fragment(t, i + 1, content).unwrap();
+    let fragment = wire::bytes::part(&made.bytes, 0, made.count);
     let digest = sha256::digest(fragment);
     kept::write_at(digests, wire::sizes::DIGEST * i, &digest);
     let at = wire::kept::REPLIES + wire::kept::REPLY_SLOT * i;

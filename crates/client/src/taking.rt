@@ -90,14 +90,7 @@ fn take_round(
     if round < protocol::rounds::COLLECT {
         return Ok(take_write_round(call, kept, party, passed, reply));
     }
-    Ok(take_read_round(
-        call,
-        kept,
-        party,
-        passed.head,
-        reply,
-        out,
-    ))
+    Ok(take_read_round(call, kept, party, passed.head, reply, out))
 }
 
 // 7, 8, 12, 13; then the round's step.

@@ -6,10 +6,11 @@ use Prim.Native.Nat.{ℕ, ◌≤◌}
 use lib.Dec.{T, ltb, eqb}
 use lib.ListN.{length}
 use borrow.Author.Tests.{eqb-true, ltb-false, not-false}
+use Rattle.std.specs.Prelude.{Result, Ok, Err, IsOk}
 use mathlib.Core.Logic.{◌≢◌}
 use Rattle.cluster.specs.declared.Refusal.{Refusal}
 use Rattle.cluster.specs.declared.Refusal.TheVariants as refusals
-use Rattle.cluster.specs.Refusals.{refusal_number}
+use Rattle.cluster.specs.Refusals.{refusal_number, number_told, outcome_told}
 use Rattle.protocol.specs.View.{kept_size}
 use Rattle.decide.specs.Listing.{usable}
 use Rattle.decide.specs.Decided.{decide_refusal_def}
@@ -42,6 +43,15 @@ refusal_some refusals.Fragments e = absurd (omega arith)
 refusal_some refusals.Line e = absurd (omega arith)
 refusal_some refusals.Stores e = absurd (omega arith)
 refusal_some refusals.WrongSize e = absurd (omega arith)
+
+-- what is told by 0 is no refusal
+pub told-ok : {A : Type 0} (r : Result A Refusal) → number_told r ≡ 0 → IsOk r
+told-ok (Ok a) e = refl
+told-ok (Err why) e = absurd (refusal_some why e)
+
+pub outcome-number : (r : Result ℕ Refusal) → (outcome_told r).number ≡ number_told r
+outcome-number (Ok a) = refl
+outcome-number (Err why) = refl
 
 -- the shelf has no more servers than there are slots
 pub few : {t : ℕ} {kept : List ℕ} → Usable t kept → (shelf t).servers ≤ most_servers

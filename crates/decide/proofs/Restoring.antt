@@ -167,7 +167,7 @@ module _ (t : ℕ) (kept servers : List ℕ) (n : ℕ) (u : Usable t kept) (most
   pub rebuilt : (b : ℕ) (frs out out' : List ℕ) (o : Outcome) → n ≡ size_in_def (reply_slot_of kept b) → length servers ≡ most_servers
       → FragmentsAs t kept (fragment_size_def (shelf t).threshold n) servers frs → content_room ≤ length out
       → (o, out') ≡ restore_step t n (take (shelf t).threshold servers) (take ((shelf t).threshold * fragment_size_def (shelf t).threshold n) frs) out
-      → (o.count ≡ length (content_of t kept b (take (shelf t).threshold servers))) ×
+      → (o.number ≡ 0) × (o.count ≡ length (content_of t kept b (take (shelf t).threshold servers))) ×
       (out' ≡ over (content_of t kept b (take (shelf t).threshold servers)) out)
   unfolding over content_of share_at share_of_size
   rebuilt b frs out out' o size wide each room h =
@@ -190,6 +190,7 @@ module _ (t : ℕ) (kept servers : List ℕ) (n : ℕ) (u : Usable t kept) (most
       let e : n ≡ value2 (get_or (drop (stamp_size + 1) (reply_slot_of kept b)) 0 0) (get_or (drop (stamp_size + 1) (reply_slot_of kept b)) 1 0) =
       size ∙ sym (length_read (reply_slot_of kept b)) in
       rw (← e) (
+        ap (λ (x : Outcome × List ℕ). x.0.number) y,
         ap (λ (x : Outcome × List ℕ). x.0.count) y ∙ sym (restored-length (shelf t).points (shelf t).threshold n
             (map (fragment_of kept (fragment_size_def (shelf t).threshold n)) (take (shelf t).threshold servers))),
         ap (λ (x : Outcome × List ℕ). x.1) y

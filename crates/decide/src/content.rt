@@ -50,6 +50,5 @@ pub(crate) fn rebuild(
     let k = threshold(t);
     let end = k * fragment_size(t, n);
     let fragments = fragments_of(kept, t, n, servers);
-    let r = erasure::restore(t, n, &servers[0..k], &fragments[0..end], out);
-    r.count
+    erasure::restore(t, n, &servers[..k], &fragments[..end], out).unwrap()
 }

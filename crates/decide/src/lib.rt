@@ -8,13 +8,13 @@ ghost use Rattle.decide.specs.Listing.{listed_in, listed_count};
 ghost use Rattle.decide.specs.Steps.{UsableAs};
 ghost use Rattle.decide.specs.Decided.{tags_place_def, same_tags_def, decide_refusal_def, decision_told, decided};
 
-use cluster::Refusal;
 use crate::content::rebuild;
 use crate::leading::{Replied, find};
 use crate::list::entry;
 use crate::rank::top;
 use crate::reply::tags_alike;
 use crate::sizes::servers;
+use cluster::Refusal;
 
 mod content;
 mod leading;

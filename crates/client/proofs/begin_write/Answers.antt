@@ -1,5 +1,5 @@
 -- The kept bytes have their length: what is left are the cases of the definition. Nothing is assumed.
-use Rattle.std.proofs.Common.{◌≡◌, ◌∙◌, rules}
+use Rattle.std.proofs.Common.{◌∙◌, rules}
 use Rattle.std.proofs.lemmas.Result.{err_from_is_err_and}
 use Rattle.client.proofs.Begins.{core_write_lem}
 use Rattle.client.proofs.begin_write.Goals as goal

@@ -1,5 +1,5 @@
 -- The kept bytes have their length: what is left are the refusals of the definition. Nothing is assumed.
-use Rattle.std.proofs.Common.{◌≡◌, ◌∙◌, rules}
+use Rattle.std.proofs.Common.{◌∙◌, rules}
 use Rattle.client.proofs.Makes.{core_make_lem}
 use Rattle.client.proofs.make.Goals as goal
 

@@ -27,7 +27,7 @@ pub loop-i-preserved : goal.loop-i-preserved
 loop-i-preserved c =
     let p = enters (candidates_in (shelf c.args.t) c.args.kept.now) in
     elim c.if-entry.branch [
-      then-entry w ↦ omega (arith, c.loop-i.invariant, count_in c.loop-i.i p (sym c.entry.ensures ∙ w.if-entry.true))
+      | then-entry w ↦ omega (arith, c.loop-i.invariant, count_in c.loop-i.i p (sym c.entry.ensures ∙ w.if-entry.true))
       | else-entry w ↦ omega (arith, c.loop-i.invariant, count_out c.loop-i.i p (sym c.entry.ensures ∙ w.if-entry.false))
     ]
 

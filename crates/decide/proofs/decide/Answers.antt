@@ -33,8 +33,11 @@ overflow_add-result c =
     let a = c.args in
     let u = allowed a.t a.kept.now (length a.out.now) (sym (c.in_ok-decide_refusal.ensures)) in
     let key : ℕ = top_at a.t a.marks a.kept.now (shelf a.t).servers in
-    omega (arith, hit-small a.t a.marks a.kept.now u.0 key c.in-Some.choice (hit a.t a.marks a.kept.now c.top-key.result c.in-Some.choice
-    c.top-key.ensures c.in-Some.ensures))
+    omega (
+      arith,
+      hit-small a.t a.marks a.kept.now u.0 key c.in-Some.choice (hit a.t a.marks a.kept.now c.top-key.result c.in-Some.choice
+          c.top-key.ensures c.in-Some.ensures),
+    )
 
 pub top-key-requires : goal.top-key-requires
 top-key-requires c = (allowed c.args.t c.args.kept.now (length c.args.out.now) (sym (c.in_ok-decide_refusal.ensures))).0

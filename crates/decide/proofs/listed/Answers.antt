@@ -12,7 +12,7 @@ unfolding listed_in
 returns-then-i-servers c =
     let a = c.args in
     elim c.if-is_usable.branch [
-      then-is_usable w ↦
+      | then-is_usable w ↦
           let i : ltb a.i w.servers.result ≡ true = sym w.value-is ∙ c.if-i-servers.true in
           rw (is-usable c.is_usable.ensures w.if-is_usable.true, lt-ltb a.i (shelf a.t).servers (omega (arith, ltb-true _ _ i, w.servers.ensures.0)))
           c.entry.ensures
@@ -24,7 +24,7 @@ unfolding listed_in
 returns-else-i-servers c =
     let a = c.args in
     c.if-i-servers.false ∙ sym (elim c.if-is_usable.branch [
-      then-is_usable w ↦
+      | then-is_usable w ↦
           let i : ltb a.i w.servers.result ≡ false = sym w.value-is ∙ c.if-i-servers.false in
           rw (is-usable c.is_usable.ensures w.if-is_usable.true, le-ltb a.i (shelf a.t).servers (omega (arith, ltb-false _ _ i, w.servers.ensures.0)))
           refl

@@ -15,8 +15,8 @@ unfolding same_tags_def
 returns-then-not-outside c =
     let a = c.args in
     elim c.if-i-servers.branch [
-      then-i-servers v ↦ elim c.if-is_usable.branch [
-        then-is_usable w ↦
+      | then-i-servers v ↦ elim c.if-is_usable.branch [
+        | then-is_usable w ↦
             let i : ltb a.i w.servers.result ≡ true = sym w.value-is ∙ v.if-i-servers.true in
             let k : not (within 1 (shelf a.t).servers a.b) ≡ false =
             rw (← v.servers-then-i-servers.ensures.0) (sym v.outside.ensures ∙ not-true _ (sym v.value-is ∙ c.if-not-outside.true)) in
@@ -37,8 +37,8 @@ unfolding same_tags_def
 returns-else-not-outside c =
     let a = c.args in
     c.if-not-outside.false ∙ sym (elim c.if-is_usable.branch [
-      then-is_usable w ↦ elim c.if-i-servers.branch [
-        then-i-servers v ↦
+      | then-is_usable w ↦ elim c.if-i-servers.branch [
+        | then-i-servers v ↦
             let k : not (within 1 (shelf a.t).servers a.b) ≡ true =
             rw (← v.servers-then-i-servers.ensures.0) (sym v.outside.ensures ∙ not-false _ (sym v.value-is ∙ c.if-not-outside.false)) in
             rw (is-usable c.is_usable.ensures w.if-is_usable.true, not-true _ k, and-false (ltb a.i (shelf a.t).servers)) refl

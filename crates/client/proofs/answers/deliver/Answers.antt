@@ -1,5 +1,5 @@
 -- The content stands at the start of the output. Nothing is assumed.
-use Rattle.std.proofs.Common.{◌≡◌, ◌∙◌, refl}
+use Rattle.std.proofs.Common.{◌∙◌, refl}
 use Rattle.format.proofs.Puts.{put-over}
 use Rattle.client.proofs.answers.deliver.Goals as goal
 

@@ -1,5 +1,5 @@
 -- Kept bytes of another length, a refusal, or a call that begins. Nothing is assumed.
-use Rattle.std.proofs.Common.{◌≡◌, ◌∙◌, sym, refl, arith, rules}
+use Rattle.std.proofs.Common.{sym, arith, rules}
 use Rattle.std.proofs.lemmas.Result.{err_from_is_err_and}
 use Rattle.decide.proofs.Arguments.{refusal_some}
 use Rattle.client.proofs.Begins.{write_short, write-refused, write-begins, write-fits}

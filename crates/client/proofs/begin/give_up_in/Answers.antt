@@ -1,5 +1,5 @@
 -- A refusal leaves the call; else the round tells how far it had come. Nothing is assumed.
-use Rattle.std.proofs.Common.{◌≡◌, ◌∙◌, sym, refl, length, rules}
+use Rattle.std.proofs.Common.{◌∙◌, refl, rules}
 use Rattle.std.proofs.lemmas.Result.{err_from_is_err_and}
 use borrow.Author.Tests.{eq-eqb, ne_eqb}
 use Rattle.cluster.proofs.Tests.{refused_is}
@@ -32,6 +32,6 @@ returns c =
     let a = c.args in
     rw (c.with_tally.ensures, c.fresh_tally.ensures, same_abort a.party.t a.party.client a.call (search rules), ← c.in_ok-abort_refusal.ensures)
     (elim c.if-call-eq-COMPLETE.branch [
-      then-call-eq-COMPLETE w ↦ rw (w.answer-is, eq-eqb a.call.tally.round 3 w.if-call-eq-COMPLETE.true) refl
+      | then-call-eq-COMPLETE w ↦ rw (w.answer-is, eq-eqb a.call.tally.round 3 w.if-call-eq-COMPLETE.true) refl
       | else-call-eq-COMPLETE w ↦ rw (w.answer-is, ne_eqb a.call.tally.round 3 w.if-call-eq-COMPLETE.false) refl
     ])

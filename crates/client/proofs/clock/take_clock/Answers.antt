@@ -1,5 +1,5 @@
 -- The highest number, the refusals, and then the end of the round or the call with one more reply. Nothing is assumed.
-use Rattle.std.proofs.Common.{◌≡◌, ◌∙◌, refl, ap, sym, Bool, List, [], ◌∷◌, ◌&&◌, ltb, leb, drop, arith, ℕ}
+use Rattle.std.proofs.Common.{◌≡◌, ◌∙◌, refl, ap, List, [], drop, arith, ℕ}
 use Rattle.std.proofs.lemmas.Result.{err_from_is_err_and}
 use Rattle.cluster.specs.Config.{shelf}
 use Rattle.protocol.specs.declared.Call.{Call}
@@ -10,7 +10,7 @@ use Rattle.protocol.specs.Primitives.{real}
 use Rattle.protocol.specs.Values.{label_of}
 use Rattle.protocol.specs.View.{stamp_at_def}
 use Rattle.wire.specs.Places.{body_at, body_label}
-use Rattle.client.specs.Rounds.{noted, ends}
+use Rattle.client.specs.Rounds.{ends}
 use Rattle.client.proofs.TakenReplies.{body_at_lem}
 use Rattle.client.proofs.ReadyRanges.{ready-faults, ready-client, ready-server}
 use Rattle.client.proofs.Clocked.{clock-long, clock-refused, clock-below, clock-noted, clock-ended}
@@ -24,8 +24,11 @@ higher-high-requires c =
     let p = c.requires in
     let told : a.passed.label ≡ label_of (stamp_at_def (drop head_size a.reply.now)) =
     p.1.1.1.label ∙ ap body_label (body_at_lem a.party.t a.party.client [] (λ i. []) a.call [] [] a.reply.now a.passed.head p.0 1 p.1.0 refl) in (
-      rw c.rest-body.ensures (omega (arith, clock-long a.party.t a.party.client a.call a.reply.now a.passed.head p.0
-          (λ k. (c.type_inv.reply k).fits) p.1.0)),
+      rw c.rest-body.ensures (omega (
+        arith,
+        clock-long a.party.t a.party.client a.call a.reply.now a.passed.head p.0
+            (λ k. (c.type_inv.reply k).fits) p.1.0,
+      )),
       rw c.rest-body.ensures (ap (λ (l : Label). l.number) told),
     )
 

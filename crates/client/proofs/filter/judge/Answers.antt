@@ -1,5 +1,5 @@
 -- What was decided leads to its case of the judgement. Nothing is assumed.
-use Rattle.std.proofs.Common.{◌≡◌, ◌∙◌, sym, ap, refl, List, ℕ, ◌≤◌, length, replicate, arith, rules}
+use Rattle.std.proofs.Common.{◌≡◌, ◌∙◌, sym, ap, List, ℕ, ◌≤◌, length, replicate, arith, rules}
 use Rattle.std.specs.Prelude.{Ok}
 use lib.ListN.{length-replicate}
 use Rattle.cluster.specs.Ranges.{content_room}

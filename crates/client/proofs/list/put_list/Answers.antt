@@ -1,7 +1,5 @@
 -- The list of the slots passed is written. Nothing is assumed.
-use Rattle.std.proofs.Common.{◌≡◌, ◌≤◌, ◌*◌, length, arith}
-use Rattle.cluster.specs.Config.{shelf}
-use Rattle.cluster.specs.Ranges.{most_servers}
+use Rattle.std.proofs.Common.{arith}
 use Rattle.format.proofs.Puts.{wrote-length}
 use Rattle.protocol.specs.Rules.{gather}
 use Rattle.client.proofs.ListBytes.{wrote_none, list-room, list-entry}

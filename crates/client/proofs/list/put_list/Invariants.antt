@@ -1,5 +1,4 @@
 -- The candidates of the slots passed that are listed are written.
-use Rattle.std.proofs.Common.{◌≡◌}
 use Rattle.cluster.specs.Config.{shelf}
 use Rattle.format.specs.Format.{print_many}
 use Rattle.format.specs.Reading.{Wrote}

@@ -1,5 +1,5 @@
 -- The packet without a body fits its buffer. Nothing is assumed.
-use Rattle.std.proofs.Common.{◌≡◌, ◌∙◌, [], arith}
+use Rattle.std.proofs.Common.{◌∙◌, [], arith}
 use Rattle.client.proofs.Printed.{packet-fits}
 use Rattle.client.proofs.packets.make_empty.Goals as goal
 

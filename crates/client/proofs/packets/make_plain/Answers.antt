@@ -1,5 +1,5 @@
 -- Each round's packet is what the definition encodes for it. Nothing is assumed.
-use Rattle.std.proofs.Common.{◌≡◌, ◌∙◌, refl, sym, ap, ℕ, List, ◌≤◌, arith}
+use Rattle.std.proofs.Common.{◌∙◌, refl, sym, ap, ℕ, List, ◌≤◌, arith}
 use mathlib.Core.Logic.{inl, inr}
 use Rattle.cluster.specs.Config.{shelf}
 use Rattle.cluster.specs.Ranges.{most_servers}
@@ -39,4 +39,10 @@ returns-in-3 c =
     (rw (c.head_of-head.ensures, c.request_kind.ensures) at c.make_chosen.ensures) ∙ ap (λ (x : List ℕ). whole_packet x a.out.now) (sym q)
 
 pub returns-in_default : goal.returns-in_default
-returns-in_default c = let h = c.in_default in ?
+returns-in_default c =
+    let a = c.args in
+    let r = hand-round a.call c.requires.1.1.1.1.1.1.0 in
+    let none = c.in_default.in_default-own.rest in
+    let q = round-bytes a.party.t a.party.client a.server a.call a.kept.now a.call.tally.round refl ∙ empty-bytes a.party.t a.party.client a.server a.call
+    a.kept.now a.call.tally.round r.0 r.1 none.0.1 (λ e. none.1 (inl e)) c.requires.1.1.1.1.1.1.1 (λ e. none.1 (inr e)) in
+    (rw (c.head_of-head.ensures, c.request_kind.ensures) at c.make_empty.ensures) ∙ ap (λ (x : List ℕ). whole_packet x a.out.now) (sym q)

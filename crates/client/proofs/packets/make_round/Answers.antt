@@ -1,5 +1,5 @@
 -- The packet of filter, or of any other round. Nothing is assumed.
-use Rattle.std.proofs.Common.{◌≡◌, ◌∙◌, sym, ap, ℕ, List, ◌≤◌, arith}
+use Rattle.std.proofs.Common.{◌∙◌, sym, ap, ℕ, List, ◌≤◌, arith}
 use Rattle.cluster.specs.Config.{shelf}
 use Rattle.cluster.specs.Ranges.{most_servers}
 use Rattle.client.specs.Steps.{whole_packet}

@@ -1,8 +1,7 @@
 -- The first test that applies gives the refusal. Nothing is assumed.
-use Rattle.std.proofs.Common.{◌≡◌, ◌∙◌, sym, refl, arith}
-use borrow.Author.Tests.{eq-eqb, ne_eqb, lt-ltb, le-ltb, lt-leb, le-leb}
+use Rattle.std.proofs.Common.{◌∙◌, sym, refl}
+use borrow.Author.Tests.{eq-eqb, ne_eqb}
 use Rattle.cluster.specs.Config.{shelf}
-use Rattle.cluster.specs.Ranges.{top_number, top_faults, packet_room}
 use Rattle.protocol.specs.Client.{abort_refusal_def}
 use Rattle.client.proofs.refusals.abort_refusal.Goals as goal
 

@@ -1,6 +1,6 @@
 -- Twice the round of a call in hand, or 0. Nothing is assumed.
-use Rattle.std.proofs.Common.{◌≡◌, ◌∙◌, sym, refl, true, arith}
-use Rattle.protocol.specs.ClientBytes.{in_hand, awaited}
+use Rattle.std.proofs.Common.{◌∙◌, sym, refl, arith}
+use Rattle.protocol.specs.ClientBytes.{awaited}
 use Rattle.client.proofs.Tests.{hand-round}
 use Rattle.client.proofs.refusals.awaited_kind.Goals as goal
 

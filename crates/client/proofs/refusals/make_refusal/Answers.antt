@@ -1,8 +1,8 @@
 -- The first test that applies gives the refusal. Nothing is assumed.
-use Rattle.std.proofs.Common.{◌≡◌, ◌∙◌, sym, refl, arith}
-use borrow.Author.Tests.{eq-eqb, ne_eqb, lt-ltb, le-ltb, lt-leb, le-leb}
+use Rattle.std.proofs.Common.{◌∙◌, sym, refl, arith}
+use borrow.Author.Tests.{eq-eqb, ne_eqb, lt-ltb, le-ltb}
 use Rattle.cluster.specs.Config.{shelf}
-use Rattle.cluster.specs.Ranges.{top_number, top_faults, packet_room}
+use Rattle.cluster.specs.Ranges.{packet_room}
 use Rattle.protocol.specs.Client.{make_refusal_def}
 use Rattle.client.proofs.refusals.make_refusal.Goals as goal
 

@@ -1,8 +1,8 @@
 -- The first test that applies gives the refusal. Nothing is assumed.
-use Rattle.std.proofs.Common.{◌≡◌, ◌∙◌, sym, refl, arith}
-use borrow.Author.Tests.{eq-eqb, ne_eqb, lt-ltb, le-ltb, lt-leb, le-leb}
+use Rattle.std.proofs.Common.{◌∙◌, sym, refl, arith}
+use borrow.Author.Tests.{lt-leb, le-leb}
 use Rattle.cluster.specs.Config.{shelf}
-use Rattle.cluster.specs.Ranges.{top_number, top_faults, packet_room}
+use Rattle.cluster.specs.Ranges.{top_number}
 use Rattle.protocol.specs.Client.{read_refusal_def}
 use Rattle.client.proofs.refusals.read_refusal.Goals as goal
 

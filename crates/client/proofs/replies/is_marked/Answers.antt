@@ -1,5 +1,5 @@
 -- The mark is that of the server. Nothing is assumed.
-use Rattle.std.proofs.Common.{◌≡◌, refl}
+use Rattle.std.proofs.Common.{refl}
 use Rattle.client.proofs.StampBytes.{marked_at}
 use Rattle.client.proofs.replies.is_marked.Goals as goal
 

@@ -1,6 +1,6 @@
 -- The first test that applies gives the refusal. Nothing is assumed.
-use Rattle.std.proofs.Common.{◌≡◌, ◌∙◌, sym, refl}
-use borrow.Author.Tests.{eq-eqb, ne_eqb}
+use Rattle.std.proofs.Common.{◌∙◌, sym, refl}
+use borrow.Author.Tests.{ne_eqb}
 use Rattle.protocol.specs.ClientBytes.{awaited}
 use Rattle.client.specs.Steps.{reply_refusal_def}
 use Rattle.client.proofs.replies.reply_refusal.Goals as goal

@@ -1,5 +1,5 @@
 -- So many of the first servers are marked. Nothing is assumed.
-use Rattle.std.proofs.Common.{◌≡◌, ◌∙◌, sym, ap, ℕ, ◌<◌, length, take, get_or, arith, rules}
+use Rattle.std.proofs.Common.{◌≡◌, ◌∙◌, sym, ap, ℕ, ◌<◌, length, arith, rules}
 use Rattle.std.proofs.lemmas.List.{get_or-take, length-take}
 use Rattle.protocol.specs.Rules.{count_to}
 use Rattle.protocol.specs.View.{marked}
@@ -24,7 +24,7 @@ loop-mark-preserved c =
     let l : i < c.args.n = omega (arith, length-take c.args.n ms) in
     let e = get_or-take c.args.n ms i 0 l in
     elim c.if-mark-ne0.branch [
-      then-mark-ne0 w ↦ omega (arith, w.c-is, c.loop-mark.invariant, count_in i (marked ms) (is-marked ms i (λ z. w.if-mark-ne0.true (e ∙ z))))
+      | then-mark-ne0 w ↦ omega (arith, w.c-is, c.loop-mark.invariant, count_in i (marked ms) (is-marked ms i (λ z. w.if-mark-ne0.true (e ∙ z))))
       | else-mark-ne0 w ↦ omega (arith, w.c-is, c.loop-mark.invariant, count_out i (marked ms) (unmarked ms i (sym e ∙ w.if-mark-ne0.false)))
     ]
 

@@ -1,6 +1,5 @@
 -- One more server's end fits its slot. Nothing is assumed.
-use Rattle.std.proofs.Common.{◌≡◌, ◌∙◌, refl, ap, ℕ, ◌+◌, length, arith, rules}
-use Rattle.cluster.specs.Config.{shelf}
+use Rattle.std.proofs.Common.{◌≡◌, ◌∙◌, refl, ◌+◌, length, arith, rules}
 use Rattle.protocol.specs.View.{replies_place, reply_slot}
 use Rattle.client.specs.Steps.{slot_run}
 use Rattle.client.proofs.SlotRuns.{slots_more}

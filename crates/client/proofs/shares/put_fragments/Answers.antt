@@ -1,5 +1,5 @@
 -- The starts so far stand above the content, which stays. Nothing is assumed.
-use Rattle.std.proofs.Common.{◌≡◌, ◌∙◌, refl, ap, ℕ, List, suc, ◌≤◌, length, arith}
+use Rattle.std.proofs.Common.{◌∙◌, refl, ap, ℕ, List, suc, ◌≤◌, length, arith}
 use Rattle.cluster.specs.Config.{shelf}
 use Rattle.format.proofs.Puts.{put-length}
 use Rattle.protocol.specs.Values.{run_of}

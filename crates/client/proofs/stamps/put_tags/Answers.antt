@@ -1,9 +1,9 @@
 -- The tags so far have room, and the buffer keeps its length. Nothing is assumed.
-use Rattle.std.proofs.Common.{◌≡◌, ◌∙◌, ap, length, arith, rules}
+use Rattle.std.proofs.Common.{◌≡◌, ◌∙◌, length, arith, rules}
 use Rattle.hmac.specs.Hmac.{tag_size}
 use Rattle.protocol.specs.Values.{run_of}
 use Rattle.client.specs.Steps.{tag_run}
-use Rattle.client.proofs.StampBytes.{put_none, tag-run-length, key_at, tag_more}
+use Rattle.client.proofs.StampBytes.{put_none, key_at, tag_more}
 use Rattle.client.proofs.Offered.{servers-few}
 use Rattle.client.proofs.stamps.put_tags.Goals as goal
 

@@ -1,5 +1,5 @@
 -- Kept bytes of another length, the refusals before the packet's head, or the reply. Nothing is assumed.
-use Rattle.std.proofs.Common.{◌≡◌, ◌∙◌, sym, refl, true, false, rules}
+use Rattle.std.proofs.Common.{◌≡◌, ◌∙◌, sym, true, false, rules}
 use Rattle.std.specs.Prelude.{Err}
 use Rattle.cluster.specs.declared.Refusal.TheVariants as refusals
 use Rattle.cluster.specs.Config.{shelf}

@@ -38,4 +38,9 @@ take_repair-requires c =
 
 pub returns-in_default : goal.returns-in_default
 returns-in_default c =
-    let h = c.in_default in ?
+    let a = c.args in
+    let p = c.requires in
+    let q = ready-round a.party.t a.party.client a.call a.reply.now a.head p.0 in
+    let e : a.call.tally.round ≡ 6 = omega (arith, p.1.0, q) in
+    λ writers keys. takes-repair a.party.t a.party.client writers keys a.call a.kept.now a.reply.now a.out.now a.head p.0 p.1.1.1 e c.take_repair.result
+    (rw c.from-server.ensures at c.take_repair.ensures.0) _ (rw c.from-server.ensures at c.take_repair.ensures.1)

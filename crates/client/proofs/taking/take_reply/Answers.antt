@@ -1,18 +1,24 @@
 -- A packet of another layout, the refusals of its head, or its round's step. Nothing is assumed.
-use Rattle.std.proofs.Common.{◌≡◌, ◌∙◌, sym, refl}
+use Rattle.std.proofs.Common.{◌≡◌, sym}
 use Rattle.std.proofs.lemmas.Result.{err_from_is_err_and}
 use Rattle.cluster.specs.declared.Refusal.TheVariants as refusals
+use Rattle.cluster.specs.declared.Refusal.{Refusal}
+use Rattle.std.specs.Prelude.{Result, Err}
+use Rattle.wire.specs.declared.packet.Passed.{Passed}
 use Rattle.wire.specs.Reads.{TookPacket}
 use Rattle.client.proofs.TakeTests.{take_broken, take_head, takes-refused}
 use Rattle.client.proofs.ReadyRanges.{server_range}
 use Rattle.decide.proofs.Arguments.{refusal_some}
 use Rattle.client.proofs.taking.take_reply.Goals as goal
 
+same_err : (x y : Refusal) → ◌≡◌ {A = Result Passed Refusal} (Err x) (Err y) → x ≡ y
+same_err x y e = cc
+
 pub returns-in_err-passed : goal.returns-in_err-passed
 returns-in_err-passed c =
     let a = c.args in
     let p = err_from_is_err_and c.from_residual.result c.from_residual.ensures.1 in
-    let e : c.in_err-passed.field-0.0 ≡ refusals.Layout = cc in
+    let e = same_err _ refusals.Layout (rw c.in_err-passed.ensures.ok_part at c.in_err-passed.ensures.value) in
     rw (p.1, p.2, e) (takes-refused a.party.t a.party.client a.writers.now a.keys.now a.call a.kept.now a.reply.now a.out.now refusals.Layout
     (take_broken a.party.t a.party.client a.writers.now a.keys.now a.call a.kept.now a.reply.now a.out.now c.requires.0 c.requires.1.0
     (rw c.in_err-passed.ensures.ok_part at c.read_packet.ensures)))

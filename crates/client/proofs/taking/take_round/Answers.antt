@@ -1,5 +1,5 @@
 -- Clock, a refusal of the output's room, or another round. Nothing is assumed.
-use Rattle.std.proofs.Common.{◌≡◌, refl, arith}
+use Rattle.std.proofs.Common.{arith}
 use Rattle.cluster.specs.declared.Refusal.TheVariants as refusals
 use Rattle.client.proofs.TakeTests.{ready-round, round_short, takes-refused}
 use Rattle.client.proofs.taking.take_round.Goals as goal

@@ -12,43 +12,61 @@ pub overflow_mul-at : goal.overflow_mul-at
 overflow_mul-at c =
     let a = c.args in
     let p = c.requires in
-    omega (arith, turn a.t a.kept.now a.servers a.n p.0 p.1 p.2 c.fragment_size-f.result c.loop-p.p c.fragment_size-f.ensures
-    (omega (arith, c.threshold-k.ensures.0)))
+    omega (
+      arith,
+      turn a.t a.kept.now a.servers a.n p.0 p.1 p.2 c.fragment_size-f.result c.loop-p.p c.fragment_size-f.ensures
+          (omega (arith, c.threshold-k.ensures.0)),
+    )
 
 pub overflow_add-at : goal.overflow_add-at
 overflow_add-at c =
     let a = c.args in
     let p = c.requires in
-    omega (arith, turn a.t a.kept.now a.servers a.n p.0 p.1 p.2 c.fragment_size-f.result c.loop-p.p c.fragment_size-f.ensures
-    (omega (arith, c.threshold-k.ensures.0)))
+    omega (
+      arith,
+      turn a.t a.kept.now a.servers a.n p.0 p.1 p.2 c.fragment_size-f.result c.loop-p.p c.fragment_size-f.ensures
+          (omega (arith, c.threshold-k.ensures.0)),
+    )
 
 pub overflow_add-at-in-loop-p : goal.overflow_add-at-in-loop-p
 overflow_add-at-in-loop-p c =
     let a = c.args in
     let p = c.requires in
-    omega (arith, turn a.t a.kept.now a.servers a.n p.0 p.1 p.2 c.fragment_size-f.result c.loop-p.p c.fragment_size-f.ensures
-    (omega (arith, c.threshold-k.ensures.0)))
+    omega (
+      arith,
+      turn a.t a.kept.now a.servers a.n p.0 p.1 p.2 c.fragment_size-f.result c.loop-p.p c.fragment_size-f.ensures
+          (omega (arith, c.threshold-k.ensures.0)),
+    )
 
 pub overflow_mul-p : goal.overflow_mul-p
 overflow_mul-p c =
     let a = c.args in
     let p = c.requires in
-    omega (arith, turn a.t a.kept.now a.servers a.n p.0 p.1 p.2 c.fragment_size-f.result c.loop-p.p c.fragment_size-f.ensures
-    (omega (arith, c.threshold-k.ensures.0)))
+    omega (
+      arith,
+      turn a.t a.kept.now a.servers a.n p.0 p.1 p.2 c.fragment_size-f.result c.loop-p.p c.fragment_size-f.ensures
+          (omega (arith, c.threshold-k.ensures.0)),
+    )
 
 pub overflow_add-at-in-loop-p-2 : goal.overflow_add-at-in-loop-p-2
 overflow_add-at-in-loop-p-2 c =
     let a = c.args in
     let p = c.requires in
-    omega (arith, turn a.t a.kept.now a.servers a.n p.0 p.1 p.2 c.fragment_size-f.result c.loop-p.p c.fragment_size-f.ensures
-    (omega (arith, c.threshold-k.ensures.0)))
+    omega (
+      arith,
+      turn a.t a.kept.now a.servers a.n p.0 p.1 p.2 c.fragment_size-f.result c.loop-p.p c.fragment_size-f.ensures
+          (omega (arith, c.threshold-k.ensures.0)),
+    )
 
 pub slice_bounds-copy-end-in-loop-p : goal.slice_bounds-copy-end-in-loop-p
 slice_bounds-copy-end-in-loop-p c =
     let a = c.args in
     let p = c.requires in
-    omega (arith, turn a.t a.kept.now a.servers a.n p.0 p.1 p.2 c.fragment_size-f.result c.loop-p.p c.fragment_size-f.ensures
-    (omega (arith, c.threshold-k.ensures.0)))
+    omega (
+      arith,
+      turn a.t a.kept.now a.servers a.n p.0 p.1 p.2 c.fragment_size-f.result c.loop-p.p c.fragment_size-f.ensures
+          (omega (arith, c.threshold-k.ensures.0)),
+    )
 
 pub copy-requires : goal.copy-requires
 copy-requires c =

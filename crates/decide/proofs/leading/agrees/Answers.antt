@@ -23,7 +23,7 @@ alike_at-requires c =
     let l : a.j < most_servers = omega (arith, p.3, few p.0) in
     let k : a.b < most_servers = omega (arith, p.2, few p.0) in
     elim c.if-replied-j-ne0.branch [
-      then-replied-j-ne0 w ↦ (
+      | then-replied-j-ne0 w ↦ (
         p.0,
         k,
         l,
@@ -41,8 +41,8 @@ intact_at-requires c =
     let a = c.args in
     let who = a.sought.replied in
     elim c.if-names_at.branch [
-      then-names_at v ↦ elim c.if-replied-j-ne0.branch [
-        then-replied-j-ne0 w ↦ (
+      | then-names_at v ↦ elim c.if-replied-j-ne0.branch [
+        | then-replied-j-ne0 w ↦ (
           p.0,
           p.3,
           names_full (shelf who.t) (reply_slot_of a.kept.now a.j) (candidates_in (shelf who.t) a.kept.now (suc a.sought.slot)) a.d.now
@@ -69,8 +69,8 @@ returns-then-alike_at c =
     let l : a.j < most_servers = omega (arith, p.3, few p.0) in
     let k : a.b < most_servers = omega (arith, p.2, few p.0) in
     elim c.if-names_at.branch [
-      then-names_at v ↦ elim c.if-replied-j-ne0.branch [
-        then-replied-j-ne0 w ↦
+      | then-names_at v ↦ elim c.if-replied-j-ne0.branch [
+        | then-replied-j-ne0 w ↦
             c.intact_at.ensures
             ∙ sym (agrees_last who.t who.marks a.kept.now a.sought.slot a.d.now p.4 a.b k p.5 a.j l
             (is-marked who.marks a.j w.if-replied-j-ne0.true) (sym w.names_at.ensures ∙ sym w.value-is ∙ v.if-names_at.true)
@@ -89,10 +89,10 @@ returns-else-alike_at c =
     let k : a.b < most_servers = omega (arith, p.2, few p.0) in
     c.if-alike_at.false
     ∙ sym (elim c.if-replied-j-ne0.branch [
-      then-replied-j-ne0 w ↦
+      | then-replied-j-ne0 w ↦
           let m = is-marked who.marks a.j w.if-replied-j-ne0.true in
           elim c.if-names_at.branch [
-            then-names_at v ↦ agrees_unlike who.t who.marks a.kept.now a.sought.slot a.d.now p.4 a.b k p.5 a.j l m
+            | then-names_at v ↦ agrees_unlike who.t who.marks a.kept.now a.sought.slot a.d.now p.4 a.b k p.5 a.j l m
                 (sym v.alike_at.ensures ∙ sym v.value-is ∙ c.if-alike_at.false)
             | else-names_at v ↦ agrees_nameless who.t who.marks a.kept.now a.sought.slot a.d.now p.4 a.b k p.5 a.j l m
                 (sym w.names_at.ensures ∙ sym w.value-is ∙ v.if-names_at.false)

@@ -21,7 +21,7 @@ intact_at-requires c =
     let a = c.args in
     let t = a.sought.replied.t in
     elim c.if-replied-j-ne0.branch [
-      then-replied-j-ne0 w ↦ (
+      | then-replied-j-ne0 w ↦ (
         p.0,
         p.2,
         names_full (shelf t) (reply_slot_of a.kept.now a.j) (candidates_in (shelf t) a.kept.now (suc a.sought.slot)) a.d.now
@@ -37,7 +37,7 @@ returns-then-names_at c =
     let who = a.sought.replied in
     let l : a.j < most_servers = omega (arith, p.2, few p.0) in
     elim c.if-replied-j-ne0.branch [
-      then-replied-j-ne0 w ↦
+      | then-replied-j-ne0 w ↦
           c.intact_at.ensures
           ∙ sym (fits-marked who.t who.marks a.kept.now a.sought.slot a.d.now p.3 a.j l (is-marked who.marks a.j w.if-replied-j-ne0.true)
           ∙ rw (sym w.names_at.ensures ∙ sym w.value-is ∙ c.if-names_at.true))
@@ -52,7 +52,7 @@ returns-else-names_at c =
     let l : a.j < most_servers = omega (arith, p.2, few p.0) in
     c.if-names_at.false
     ∙ elim c.if-replied-j-ne0.branch [
-      then-replied-j-ne0 w ↦
+      | then-replied-j-ne0 w ↦
           sym (fits-marked who.t who.marks a.kept.now a.sought.slot a.d.now p.3 a.j l (is-marked who.marks a.j w.if-replied-j-ne0.true)
           ∙ rw (sym w.names_at.ensures ∙ sym w.value-is ∙ c.if-names_at.false))
       | else-replied-j-ne0 w ↦ sym (fits_unmarked who.t who.marks a.kept.now a.sought.slot a.j w.if-replied-j-ne0.false)

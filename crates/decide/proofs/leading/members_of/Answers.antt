@@ -28,7 +28,7 @@ returns-then-n-k c =
     let p = agrees_at_def q.replied.t q.replied.marks c.args.kept.now q.slot c.args.b in
     let v = c.loop-j.invariant in
     elim c.if-agrees.branch [
-      then-agrees w ↦
+      | then-agrees w ↦
           let s = servers_in p c.loop-j.j c.loop-j.n c.loop-j.members v.count v.these (omega (arith, v.few, v.room, c.threshold-k.ensures, c.requires.0.high))
           (sym c.agrees.ensures ∙ w.if-agrees.true) in
           let k : (shelf q.replied.t).threshold ≡ c.loop-j.n + 1 = omega (arith, c.threshold-k.ensures.0, c.if-n-k.true, w.n-is) in
@@ -43,7 +43,7 @@ loop-j-preserved c =
     let p = agrees_at_def q.replied.t q.replied.marks c.args.kept.now q.slot c.args.b in
     let v = c.loop-j.invariant in
     elim c.if-agrees.branch [
-      then-agrees w ↦
+      | then-agrees w ↦
           let s = servers_in p c.loop-j.j c.loop-j.n c.loop-j.members v.count v.these (omega (arith, v.few, v.room, c.threshold-k.ensures, c.requires.0.high))
           (sym c.agrees.ensures ∙ w.if-agrees.true) in
           record {

@@ -25,7 +25,7 @@ returns c =
     let a = c.args in
     rw (candidate-rank (shelf a.sought.replied.t) a.kept.now a.sought.slot c.requires.1, ← c.rank_at-key.ensures)
     (elim c.else-key-top.branch [
-      else-key-top-via-then-key-top+else-stays w ↦
+      | else-key-top-via-then-key-top+else-stays w ↦
           rw (lt-ltb a.top c.rank_at-key.result (omega arith), ← w.stays.ensures, w.if-stays.false) refl
       | else-key-top-via-else-key-top w ↦ rw (le-ltb a.top c.rank_at-key.result (omega arith)) refl
     ])

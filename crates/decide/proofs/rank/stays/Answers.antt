@@ -34,7 +34,7 @@ loop-j-preserved c =
     let j : c.loop-j.j < most_servers = omega (arith, c.servers-s.ensures.1, c.requires.high) in
     let b = below-slot (shelf a.replied.t) a.kept.now a.replied.marks a.key c.loop-j.j j in
     elim c.if-is_lower.branch [
-      then-is_lower w ↦ omega (arith, c.loop-j.invariant, count_in c.loop-j.j p (b ∙ sym c.is_lower.ensures ∙ w.if-is_lower.true))
+      | then-is_lower w ↦ omega (arith, c.loop-j.invariant, count_in c.loop-j.j p (b ∙ sym c.is_lower.ensures ∙ w.if-is_lower.true))
       | else-is_lower w ↦ omega (arith, c.loop-j.invariant, count_out c.loop-j.j p (b ∙ sym c.is_lower.ensures ∙ w.if-is_lower.false))
     ]
 

@@ -17,7 +17,7 @@ returns-then-reply-eq0 c =
     let a = c.args in
     let p = c.requires in
     sym (elim c.then-reply-eq0.branch [
-      then-reply-eq0-via-then-reply-eq0 w ↦ names_none (shelf a.t) a.reply.now (candidate_at (shelf a.t) a.candidate.now) a.d.now
+      | then-reply-eq0-via-then-reply-eq0 w ↦ names_none (shelf a.t) a.reply.now (candidate_at (shelf a.t) a.candidate.now) a.d.now
           (eq-eqb (get_or a.reply.now stamp_size 0) 0 w.if-reply-eq0.true)
       | then-reply-eq0-via-else-reply-eq0+then-n-gt-TOP_LENGTH w ↦ names-long (shelf a.t) a.reply.now a.candidate.now a.d.now
           (ne_eqb (get_or a.reply.now stamp_size 0) 0 w.if-reply-eq0.false) (omega (arith, c.size_of-n.ensures))
@@ -32,7 +32,7 @@ returns c =
     let a = c.args in
     let p = c.requires in
     let f : Full a.reply.now =
-    record { flag = ne_eqb (get_or a.reply.now stamp_size 0) 0 c.if-reply-eq0.false; top = omega (arith, c.size_of-n.ensures); } in
+    record { flag = ne_eqb (get_or a.reply.now stamp_size 0) 0 c.if-reply-eq0.false; top = omega (arith, c.size_of-n.ensures) } in
     let q : same_stamp (stamp_at_def a.reply.now) (stamp_at_def a.candidate.now) ≡ true =
     sym (same_heads a.reply.now a.candidate.now (λ k. (c.type_inv.reply k).fits) (λ k. (c.type_inv.candidate k).fits)
     (omega (arith, p.2)) (omega (arith, p.3))) ∙ sym c.same.ensures ∙ c.if-not-same.false in
