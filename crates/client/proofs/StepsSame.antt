@@ -4,7 +4,7 @@ use mathlib.Core.Path.{◌≡◌, refl, sym, ap, ◌∙◌, subst}
 use mathlib.Core.Bool.{Bool, true, false, cond, not}
 use mathlib.Core.List.{List, []}
 use mathlib.Core.Option.{none, some}
-use Prim.Native.Nat.{ℕ, zero, suc, ◌*◌, ◌+◌}
+use Prim.Native.Nat.{ℕ, zero, suc, ◌*◌}
 use lib.Dec.{T, eqb}
 use lib.ListN.{length, replicate}
 use Rattle.cluster.specs.Config.{Config, shelf}
@@ -13,7 +13,7 @@ use Rattle.cluster.specs.Refusals.{on_refusal}
 use Rattle.cluster.proofs.Tests.{passes}
 use Rattle.protocol.specs.declared.Call.{Call}
 use Rattle.protocol.specs.declared.Aborted.TheVariants as aborts
-use Rattle.protocol.specs.Answers.{aborted_answer, bare, refusals}
+use Rattle.protocol.specs.Answers.{aborted_answer, refused_answer}
 use Rattle.protocol.specs.Values.{blank_candidate}
 use Rattle.protocol.specs.Packet.{encode}
 use Rattle.protocol.specs.Rules.{count_to, nobody}
@@ -113,7 +113,7 @@ module _ (t client : ℕ) (c : Call) (wide : length c.tally.marks ≡ most_serve
   same_abort =
       at-refusals gave-up _ (λ n. record { client = view s c []; result = refused n })
       (λ n. record { answer = aborted_answer (cond (eqb c.tally.round 3) aborts.InComplete aborts.Before); call = with_tally_def c (fresh 0) })
-      (λ n. record { answer = bare (refusals + n); call = c }) _ _
+      (λ n. record { answer = refused_answer n; call = c }) _ _
       (ap (abort_refusal_def s client) (awaits_is s c []))
       (λ e. end (abort_busy s client c e)) (λ k. unfold after in refl)
     where

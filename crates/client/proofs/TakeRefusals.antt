@@ -4,7 +4,7 @@ use mathlib.Core.Path.{◌≡◌, refl, sym, ap, ◌∙◌}
 use mathlib.Core.Bool.{Bool, true, false, cond, not, ◌&&◌, ◌||◌, true≢false}
 use mathlib.Core.List.{List}
 use mathlib.Core.Option.{some}
-use Prim.Native.Nat.{ℕ, ◌+◌}
+use Prim.Native.Nat.{ℕ}
 use native.Mathlib.Omega.{arith}
 use lib.Dec.{leb, ltb, eqb}
 use lib.ListN.{length}
@@ -14,7 +14,7 @@ use Rattle.cluster.specs.Ranges.{top_number, content_room}
 use Rattle.cluster.proofs.Tests.{and_both, passes, refused_is, accepted_is}
 use Rattle.protocol.specs.declared.Call.{Call}
 use Rattle.protocol.specs.declared.Head.{Head}
-use Rattle.protocol.specs.Answers.{bare, refusals}
+use Rattle.protocol.specs.Answers.{refused_answer}
 use Rattle.protocol.specs.Packet.{Body, Packet, kind_of}
 use Rattle.protocol.specs.Primitives.{real}
 use Rattle.protocol.specs.Rules.{ByServer}
@@ -73,7 +73,7 @@ module _ (t client : ℕ) (writers : List ℕ) (keys : ByServer (List ℕ)) (c :
   outcome = take_in_def real (shelf t) client writers keys c kept output (some packet)
 
   abbrev refused_with_def : ℕ → Took
-  refused_with_def n = record { answer = bare (refusals + n); call = c; kept = kept; output = output }
+  refused_with_def n = record { answer = refused_answer n; call = c; kept = kept; output = output }
 
   module _ (faults : bad_faults (shelf t) ≡ false) (reader : bad_client_def (of_write (awaited c)) client ≡ false) (kind : kind_of x ≡ h.kind) where
     list : number

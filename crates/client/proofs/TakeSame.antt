@@ -1,11 +1,11 @@
 -- Taking a reply by rounds on bytes is `client_take`, which looks at the bytes as a client, does its step, and puts it back: for every state.
 -- Refusals are one list; each round is the same. The sizes are those of the types. Nothing is assumed.
-use Rattle.protocol.specs.Answers.{refusals, bare}
+use Rattle.protocol.specs.Answers.{refused_answer}
 use mathlib.Core.Path.{◌≡◌, refl, sym, ap, ◌∙◌, subst}
 use mathlib.Core.Bool.{Bool, true, cond}
 use mathlib.Core.List.{List}
 use mathlib.Core.Option.{Option, none, some}
-use Prim.Native.Nat.{ℕ, zero, suc, ◌*◌, ◌+◌}
+use Prim.Native.Nat.{ℕ, zero, suc, ◌*◌}
 use lib.Dec.{T, eqb}
 use lib.ListN.{length}
 use Rattle.cluster.specs.Config.{Config, shelf}
@@ -83,7 +83,7 @@ module _ (P : Primitives) (t client : ℕ) (writers : List ℕ) (keys : ByServer
     settle : (o : Option Packet) → ((p : Packet) → o ≡ some p → PacketOk p) → (n : ℕ) → code o ≡ n
         → took_by s c kept (put_reply_def s kept o) output (on_refusal n (turn_on P s client writers keys cl o) (record { client = cl; result = refused n }))
         ≡ on_refusal n (take_on P s client writers keys c kept output c.tally.round o)
-        (record { answer = bare (refusals + n); call = c; kept = kept; output = output })
+        (record { answer = refused_answer n; call = c; kept = kept; output = output })
     settle o ok (suc n) e = unfold took_by took after over in refl
     settle (some p) ok zero e = accepted_one p (ok p refl) e
     settle none ok zero e = absurd (not_none s client c.number (awaited c) (marked c.tally.marks) _ (length output) e)

@@ -5,7 +5,7 @@ use mathlib.Core.Path.{◌≡◌, refl, sym, ap, subst, ◌∙◌}
 use mathlib.Core.Bool.{Bool, true, false, cond, true≢false}
 use mathlib.Core.List.{List, []}
 use mathlib.Core.Option.{Option, none, some}
-use Prim.Native.Nat.{ℕ, ◌+◌, ◌*◌, ◌≤◌, ◌<◌}
+use Prim.Native.Nat.{ℕ, ◌*◌, ◌≤◌, ◌<◌}
 use native.Mathlib.Omega.{arith}
 use lib.Dec.{eqb}
 use lib.ListN.{length, drop}
@@ -17,7 +17,7 @@ use Rattle.cluster.specs.Refusals.{wrong_size, refusal_number}
 use Rattle.cluster.proofs.Tests.{inside, refused_is}
 use Rattle.protocol.specs.declared.Call.{Call}
 use Rattle.protocol.specs.declared.Head.{Head}
-use Rattle.protocol.specs.Answers.{refusals, bare}
+use Rattle.protocol.specs.Answers.{refused_answer}
 use Rattle.format.specs.Format.{Bytes}
 use Rattle.protocol.specs.Packet.{Packet, Body, BodyOk, print_body, collect_reply, any_candidate_f, decode, head_size}
 use Rattle.protocol.specs.Primitives.{real}
@@ -42,7 +42,7 @@ use Rattle.client.proofs.TakenReplies.{body_at_lem, printed}
 
 -- a refusal, which changes nothing
 abbrev pub refused_with_def : Call → List ℕ → List ℕ → ℕ → Took
-refused_with_def c kept output n = record { answer = bare (refusals + n); call = c; kept = kept; output = output }
+refused_with_def c kept output n = record { answer = refused_answer n; call = c; kept = kept; output = output }
 
 -- the refusals before the packet's head: 3, 5, 7
 module _ (t client : ℕ) (calls kind : ℕ) (replied : ByServer Bool) (high : ℕ → Body → Bool) (room : ℕ) where

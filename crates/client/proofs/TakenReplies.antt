@@ -15,7 +15,7 @@ use Rattle.protocol.specs.declared.Call.{Call}
 use Rattle.protocol.specs.declared.Head.{Head}
 use Rattle.protocol.specs.declared.Stamp.{Stamp}
 use Rattle.protocol.specs.declared.Taken.TheVariants as taken
-use Rattle.protocol.specs.Answers.{bare, refusals, taken_answer}
+use Rattle.protocol.specs.Answers.{taken_answer, refused_answer}
 use Rattle.format.specs.Format.{Bytes}
 use Rattle.protocol.specs.Packet.{Body, Packet, decode, kind_of, head_size, print_body, any_candidate_f, candidate_f, clock_reply, store_reply, collect_reply}
 use Rattle.protocol.specs.Primitives.{real}
@@ -154,7 +154,7 @@ module _ (t client : ℕ) (writers : List ℕ) (keys : ByServer (List ℕ)) (c :
     clock_kind = let a = awaited-reply t client c h y.awaited in sym (a.of_kind ∙ kind_at c 1 clock refl)
 
     abbrev refused_with_def : ℕ → Took
-    refused_with_def n = record { answer = bare (refusals + n); call = c; kept = kept; output = output }
+    refused_with_def n = record { answer = refused_answer n; call = c; kept = kept; output = output }
 
     pub clock_too-high : ends (shelf t) c h.server ≡ true → leb top_number highest ≡ true → all ≡ refused_with_def 14
     clock_too-high e l = as-clock ∙ high-refused t client writers keys c kept output h (clock_reply stamp) y.faults y.reader clock_kind

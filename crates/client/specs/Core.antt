@@ -1,8 +1,8 @@
 -- The client's operations over kept bytes of any length, for a caller that keeps many clients in one area: refused where it is another than theirs.
-use Rattle.std.specs.Prelude.{cond, List, ℕ, ◌+◌, eqb, length}
+use Rattle.std.specs.Prelude.{cond, List, ℕ, eqb, length}
 use Rattle.cluster.specs.Refusals.{wrong_size}
 use Rattle.protocol.specs.declared.Call.{Call}
-use Rattle.protocol.specs.Answers.{refusals, bare}
+use Rattle.protocol.specs.Answers.{refused_answer}
 use Rattle.protocol.specs.Primitives.{real}
 use Rattle.protocol.specs.View.{kept_size}
 use Rattle.protocol.specs.ClientBytes.{Begun, Filled, Took, begin_write_def, begin_read_def, client_make, client_take}
@@ -24,4 +24,4 @@ core_make t client b c kept output =
 unfoldable pub core_take : ℕ → ℕ → List ℕ → List (List ℕ) → Call → List ℕ → List ℕ → List ℕ → Took
 core_take t client writers keys c kept reply output =
     cond (eqb (length kept) kept_size) (client_take real t client writers keys c kept reply output)
-    (record { answer = bare (refusals + wrong_size); call = c; kept = kept; output = output })
+    (record { answer = refused_answer wrong_size; call = c; kept = kept; output = output })

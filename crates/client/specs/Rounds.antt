@@ -17,7 +17,7 @@ use Rattle.protocol.specs.Packet.{Body, Packet, decode, encode, any_candidate_f,
 use Rattle.protocol.specs.Primitives.{Primitives}
 use Rattle.protocol.specs.Rules.{ByServer, upd, count_to, gather, live, choice, leader, restored_by, tags_in}
 use Rattle.protocol.specs.Client.{is_full_def, higher, stamp_in, code_in, candidate_in, held_in_def, made, candidate_made, shares_made, write_refusal_def, read_refusal_def, make_refusal_def, abort_refusal_def, take_refusal}
-use Rattle.protocol.specs.Answers.{refusals, bare, taken_answer, aborted_answer}
+use Rattle.protocol.specs.Answers.{taken_answer, aborted_answer, refused_answer}
 use Rattle.format.specs.Reading.{over, put}
 use Rattle.protocol.specs.View.{view, marked, content_of, nonce_of_def, chosen_of, candidates_in, replies_in, nonce_place, chosen_place, candidate_slot, candidates_place, replies_place, reply_slot}
 use Rattle.protocol.specs.ClientBytes.{put_shares, key_of, fresh, in_hand, awaited, Begun, GaveUp, Filled, Took}
@@ -66,7 +66,7 @@ unfoldable pub abort_by_rounds : ℕ → ℕ → Call → GaveUp
 abort_by_rounds t client c =
     let n = abort_refusal_def (shelf t) client (awaited c) in
     on_refusal n (record { answer = aborted_answer (cond (eqb c.tally.round 3) aborts.InComplete aborts.Before); call = with_tally_def c (fresh 0) })
-    (record { answer = bare (refusals + n); call = c })
+    (record { answer = refused_answer n; call = c })
 
 unfoldable pub make_by_rounds : ℕ → ℕ → ℕ → Call → List ℕ → List ℕ → Filled
 make_by_rounds t client b c kept output =
@@ -151,7 +151,7 @@ module _ (P : Primitives) (s : Config) (client : ℕ) (writers : List ℕ) (keys
   unfoldable pub take_in_def : Option Packet → Took
   take_in_def o =
       let n = take_refusal s client o c.number (awaited c) (marked c.tally.marks) high_in (length output) in
-      on_refusal n (take_on c.tally.round o) (record { answer = bare (refusals + n); call = c; kept = kept; output = output })
+      on_refusal n (take_on c.tally.round o) (record { answer = refused_answer n; call = c; kept = kept; output = output })
 
 unfoldable pub take_by_rounds : Primitives → ℕ → ℕ → List ℕ → List (List ℕ) → Call → List ℕ → List ℕ → List ℕ → Took
 take_by_rounds P t client writers keys c kept reply output = take_in_def P (shelf t) client writers (key_of keys) c kept output (decode reply)

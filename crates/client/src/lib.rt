@@ -5,7 +5,7 @@
 ghost use Rattle.std.specs.Prelude.{◌≡◌};
 ghost use Rattle.cluster.specs.Refusals.{done_told, outcome_told};
 ghost use Rattle.protocol.specs.Primitives.{real};
-ghost use Rattle.client.specs.Answers.{taken_told, aborted_told};
+ghost use Rattle.protocol.specs.Answers.{taken_told, aborted_told};
 ghost use Rattle.protocol.specs.ClientBytes.{begin_write_def, begin_read_def, client_make, client_take, give_up_def};
 ghost use Rattle.protocol.specs.ClientBytes.{new_call_def};
 

@@ -38,17 +38,22 @@ fn share_size(t: usize, n: u32) -> usize
 }
 
 // A packet without a body.
-fn make_empty(head: protocol::Head, out: &mut [u8]) -> cluster::Outcome
+fn make_empty(head: protocol::Head, out: &mut [u8]) -> Result<usize, Refusal>
     requires { packet_room ≤ length out.old }
-    ensures { record { result = result; output = out.new } ≡ whole_packet (head_f.print head ++ ([] ++ [])) out.old }
+    ensures { record { result = outcome_told result; output = out.new } ≡ whole_packet (head_f.print head ++ ([] ++ [])) out.old }
 {
     wire::make::make_packet(head, &[], &[], out)
 }
 
 // A packet with the chosen candidate.
-fn make_chosen(head: protocol::Head, kept: &[u8], t: usize, out: &mut [u8]) -> cluster::Outcome
+fn make_chosen(
+    head: protocol::Head,
+    kept: &[u8],
+    t: usize,
+    out: &mut [u8],
+) -> Result<usize, Refusal>
     requires { (t ≤ top_faults) × ((length kept.now ≡ kept_size) × (packet_room ≤ length out.old)) }
-    ensures { record { result = result; output = out.new }
+    ensures { record { result = outcome_told result; output = out.new }
         ≡ whole_packet (head_f.print head ++ ((candidate_f (shelf t)).print (chosen_of (shelf t) kept.now) ++ [])) out.old }
 {
     let chosen = wire::bytes::part(kept, wire::kept::CHOSEN, wire::kept::CANDIDATE_SLOT);
@@ -67,9 +72,9 @@ fn make_store(
     t: usize,
     server: usize,
     out: &mut [u8],
-) -> cluster::Outcome
+) -> Result<usize, Refusal>
     requires { (t ≤ top_faults) × ((1 ≤ server) × ((server ≤ most_servers) × ((length kept.now ≡ kept_size) × (packet_room ≤ length out.old)))) }
-    ensures { record { result = result; output = out.new }
+    ensures { record { result = outcome_told result; output = out.new }
         ≡ whole_packet (head_f.print head ++ (stamp_f.print (chosen_of (shelf t) kept.now).stamp
         ++ (share_f (shelf t)).print (share_at (shelf t) (reply_slot_of kept.now (server - 1))))) out.old }
 {
@@ -91,10 +96,10 @@ fn make_plain(
     party: Party,
     server: usize,
     out: &mut [u8],
-) -> cluster::Outcome
+) -> Result<usize, Refusal>
     requires { (party.t ≤ top_faults) × ((party.client ≤ top_client) × ((1 ≤ server) × ((server ≤ (shelf party.t).servers)
         × ((length kept.now ≡ kept_size) × ((packet_room ≤ length out.old) × ((in_hand call ≡ true) × (call.tally.round ≡ 5 → ⊥))))))) }
-    ensures { record { result = result; output = out.new } ≡ whole_packet
+    ensures { record { result = outcome_told result; output = out.new } ≡ whole_packet
         (encode (made party.t party.client (view (shelf party.t) call kept.now) server)) out.old }
 {
     let round = call.tally.round;
@@ -109,9 +114,14 @@ fn make_plain(
 }
 
 // The list as collect left it. Its count is known once it is written, by the bytes that it took: no slot is looked at twice.
-fn make_filter(head: protocol::Head, kept: &[u8], t: usize, out: &mut [u8]) -> cluster::Outcome
+fn make_filter(
+    head: protocol::Head,
+    kept: &[u8],
+    t: usize,
+    out: &mut [u8],
+) -> Result<usize, Refusal>
     requires { (1 ≤ t) × ((t ≤ top_faults) × ((length kept.now ≡ kept_size) × (packet_room ≤ length out.old))) }
-    ensures { record { result = result; output = out.new }
+    ensures { record { result = outcome_told result; output = out.new }
         ≡ whole_packet (head_f.print head ++ (candidates_f (shelf t)).print (gather (candidates_in (shelf t) kept.now) (shelf t).servers))
         out.old }
 {
@@ -120,10 +130,7 @@ fn make_filter(head: protocol::Head, kept: &[u8], t: usize, out: &mut [u8]) -> c
     let n = list::put_list(out, b, kept, t);
     let size = wire::sizes::candidate_size(t as u8);
     wire::make::put_byte(out, a, ((n - b) / size) as u8);
-    cluster::Outcome {
-        number: 0,
-        count: n,
-    }
+    Ok(n)
 }
 
 // The packet of any round.
@@ -133,10 +140,10 @@ fn make_round(
     party: Party,
     server: usize,
     out: &mut [u8],
-) -> cluster::Outcome
+) -> Result<usize, Refusal>
     requires { (1 ≤ party.t) × ((party.t ≤ top_faults) × ((party.client ≤ top_client) × ((1 ≤ server) × ((server ≤ (shelf party.t).servers)
         × ((length kept.now ≡ kept_size) × ((packet_room ≤ length out.old) × (in_hand call ≡ true))))))) }
-    ensures { record { result = result; output = out.new } ≡ whole_packet
+    ensures { record { result = outcome_told result; output = out.new } ≡ whole_packet
         (encode (made party.t party.client (view (shelf party.t) call kept.now) server)) out.old }
 {
     if call.tally.round == protocol::rounds::FILTER {
@@ -165,5 +172,5 @@ pub fn make_in(
         return Err(Refusal::WrongSize);
     }
     refusals::make_refusal(party, server, call, out.len())?;
-    Ok(make_round(call, kept, party, server, out).count)
+    make_round(call, kept, party, server, out)
 }

@@ -1,9 +1,7 @@
 -- Each way to a return is one case of the definition. Nothing is assumed.
-use Rattle.std.proofs.Common.{◌≡◌, ◌∙◌, sym, ap}
+use Rattle.std.proofs.Common.{◌∙◌, sym}
 use Rattle.std.proofs.lemmas.Result.{err_from_is_err_and}
-use Rattle.protocol.specs.ClientBytes.{Filled}
 use Rattle.decide.proofs.Arguments.{refusal_some}
-use Rattle.client.specs.Steps.{whole_packet}
 use Rattle.client.proofs.Makes.{make_short, make-refused, make_goes, make-fits}
 use Rattle.client.proofs.packets.make_in.Goals as goal
 
@@ -25,10 +23,7 @@ make_round-requires c =
     (f.0, (f.1.0, (f.1.1.0, (f.1.1.1.0, (f.1.1.1.1.0, (c.if-kept-ne-KEPT.false, (f.1.1.1.1.1.0, f.1.1.1.1.1.1)))))))
 
 pub returns : goal.returns
-unfolding whole_packet
 returns c =
     let a = c.args in
-    let n : 0 ≡ c.make_round.result.number = sym (ap (λ (x : Filled). x.result.number) c.make_round.ensures) in
-    (λ i. record { result = record { number = n i; count = c.make_round.result.count }; output = c.make_round.new.out })
-    ∙ (c.make_round.ensures ∙ sym (make_goes a.party.t a.party.client a.server a.call a.kept.now a.out.now c.if-kept-ne-KEPT.false
-    (sym c.in_ok-make_refusal.ensures)))
+    c.make_round.ensures ∙ sym (make_goes a.party.t a.party.client a.server a.call a.kept.now a.out.now c.if-kept-ne-KEPT.false
+    (sym c.in_ok-make_refusal.ensures))
