@@ -10,9 +10,7 @@ use lib.Seq.{get_or-set_other}
 use borrow.Author.Tests.{le-leb, lt-leb}
 use Rattle.cluster.specs.Config.{Config, shelf}
 use Rattle.cluster.specs.Ranges.{most_servers}
-use Rattle.cluster.specs.declared.Refusal.{Refusal}
-use Rattle.cluster.specs.declared.Refusal.TheVariants.{MemorySize, Memory, Faults, Server, Client, Length, Layout, Addressee, Sender, Reply, Hand, Numbers, Room, Fragments, Line, Stores, WrongSize}
-use Rattle.cluster.specs.Refusals.{on_refusal, refusal_number}
+use Rattle.cluster.specs.Refusals.{on_refusal}
 use Rattle.cluster.proofs.Tests.{refused_is, accepted_is}
 use Rattle.erasure.specs.Fragments.{table}
 use Rattle.erasure.proofs.Fill.{Filled, filled_more}
@@ -49,26 +47,6 @@ filters-made t {candidate} {most} {k} {out} p q e h =
     at i b (yes l) =
         h.made.each i (omega arith) ∙ ap (λ (n : ℕ). head_size + (1 + i * n)) p ∙ sym (filter-fits (shelf t) i (omega arith))
     at i b (no l) = h.others i (omega arith) b ∙ sym (filter_none (shelf t) i (omega arith))
-
--- no refusal has the number 0
-pub refused-not0 : (why : Refusal) → refusal_number why ≢ 0
-refused-not0 MemorySize e = omega arith
-refused-not0 Memory e = omega arith
-refused-not0 Faults e = omega arith
-refused-not0 Server e = omega arith
-refused-not0 Client e = omega arith
-refused-not0 Length e = omega arith
-refused-not0 Layout e = omega arith
-refused-not0 Addressee e = omega arith
-refused-not0 Sender e = omega arith
-refused-not0 Reply e = omega arith
-refused-not0 Hand e = omega arith
-refused-not0 Numbers e = omega arith
-refused-not0 Room e = omega arith
-refused-not0 Fragments e = omega arith
-refused-not0 Line e = omega arith
-refused-not0 Stores e = omega arith
-refused-not0 WrongSize e = omega arith
 
 module _ (t n readers stores : ℕ) where
   pub plan-made : plan_refusal_def t n readers stores ≡ 0 → plan_step t n readers stores ≡ plan_of t n readers stores

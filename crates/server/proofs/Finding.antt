@@ -9,7 +9,7 @@ use native.Mathlib.Omega.{arith}
 use lib.Dec.{ltb}
 use lib.ListN.{drop}
 use lib.Seq.{get_or-take}
-use borrow.Author.Tests.{ltb-true, ltb-false, le-ltb, lt-ltb}
+use borrow.Author.Tests.{ltb-true, le-ltb, lt-ltb}
 use Rattle.cluster.specs.Config.{shelf}
 use Rattle.cluster.proofs.Tests.{untrue, and_both}
 use Rattle.protocol.specs.declared.Stamp.{Stamp}
@@ -19,7 +19,6 @@ use Rattle.protocol.specs.Packet.{stamp_f}
 use Rattle.protocol.specs.Memory.{lookup}
 use Rattle.protocol.specs.View.{stamp_at_def}
 use Rattle.format.specs.Reading.{bytes_at}
-use Rattle.format.proofs.Answers.{at-cond}
 use Rattle.protocol.proofs.Equal.{same_true, same_printed}
 use Rattle.format.proofs.Formats.{value4-print}
 use Rattle.server.specs.declared.memory.Top.{Top}

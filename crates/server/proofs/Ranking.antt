@@ -16,7 +16,7 @@ use Rattle.format.specs.Format.{Bytes}
 use Rattle.protocol.specs.Values.{candidate_size_def, rank}
 use Rattle.protocol.specs.View.{stamp_at_def}
 use Rattle.format.specs.Reading.{bytes_at}
-use Rattle.format.proofs.Answers.{at-cond, bytes_drop}
+use Rattle.format.proofs.Answers.{bytes_drop}
 use Rattle.std.proofs.lemmas.Grind.{common_steps}
 use Rattle.std.specs.Ordering.{ord_max, nat_cmp}
 use Rattle.std.specs.Option.{option_cmp}

@@ -3,7 +3,7 @@
 use mathlib.Core.Path.{◌≡◌, refl, sym, ap, ◌∙◌, subst}
 use mathlib.Core.Bool.{Bool, true, false}
 use mathlib.Core.List.{List, [], ◌∷◌, ◌++◌}
-use mathlib.Core.Option.{none, some}
+use mathlib.Core.Option.{some}
 use Prim.Native.Nat.{ℕ, ◌≤◌, ◌<◌}
 use native.Mathlib.Omega.{arith}
 use lib.ListN.{length, take, drop}
@@ -33,7 +33,7 @@ use Rattle.std.specs.declared.option.Option as rust
 use Rattle.std.specs.Prelude.{Some, None}
 use Rattle.std.specs.Option as std
 use lib.Dec.{T}
-use Rattle.server.specs.Reads.{first_with, FindIs, FindAs, OpenedAs}
+use Rattle.server.specs.Reads.{first_with, FindAs, OpenedAs}
 use Rattle.server.specs.Answers.{memory_in, ToServer, reply_head_def, kept_bytes}
 use Rattle.server.proofs.Finding.{share_in_def, first-held}
 use Rattle.server.proofs.Keeping.{kept_memory}

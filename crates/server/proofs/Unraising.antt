@@ -1,6 +1,6 @@
 -- The latest candidate made blank: one equation for each way, and the bytes. A blank candidate's bytes are zeros. Assumes nothing.
 use mathlib.Core.Path.{◌≡◌, sym, ap, ◌∙◌, subst}
-use Rattle.std.specs.Prelude.{Option, Some, None, Result, Ok, Err, MatchOption, ok_or}
+use Rattle.std.specs.Prelude.{Option, Some, None, Ok, Err, MatchOption, ok_or}
 use mathlib.Core.List.{List}
 use mathlib.Core.Option.{none}
 use Prim.Native.Nat.{ℕ, ◌+◌, ◌*◌, ◌≤◌}

@@ -27,7 +27,6 @@ use Rattle.protocol.proofs.Readers.{stamp_read, share_read}
 use Rattle.format.proofs.Walks.{Reads, decide, leaves_moved, many-next, many_stops, many_none}
 use Rattle.wire.specs.Places.{length_at, share_size_def, write_at_def}
 use Rattle.wire.proofs.Through.{past-stamp}
-use Rattle.std.specs.declared.option.Option as rust
 use Rattle.std.specs.Prelude.{Some, None}
 use Rattle.server.specs.Reads.{write_size, Stored, first_with, SearchAs}
 

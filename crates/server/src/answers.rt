@@ -1,8 +1,10 @@
 // The answers to requests, one function for each kind.
 ghost use Rattle.std.specs.Prelude.{◌≡◌};
+ghost use Rattle.cluster.specs.Refusals.{outcome_told};
 ghost use Rattle.server.specs.Answers.{reply_head_def, AnswersFor, AnswersAll, raised_bytes};
 
 use crate::memory::LATEST;
+use cluster::Refusal;
 use wire::bytes::part;
 
 // The head of a reply.
@@ -19,9 +21,9 @@ pub(crate) fn reply_head(head: protocol::Head, kind: u8) -> protocol::Head
 }
 
 // Clock: the latest candidate's stamp.
-pub(crate) fn clock(memory: &[u8], head: protocol::Head, out: &mut [u8]) -> cluster::Outcome
+pub(crate) fn clock(memory: &[u8], head: protocol::Head, out: &mut [u8]) -> Result<usize, Refusal>
     ensures { AnswersAll 1 memory.now out.old head
-        (record { result = result; memory = memory.now; output = out.new }) }
+        (record { result = outcome_told result; memory = memory.now; output = out.new }) }
 {
     wire::make::make_packet(
         reply_head(head, protocol::kinds::CLOCK_REPLY),
@@ -32,9 +34,9 @@ pub(crate) fn clock(memory: &[u8], head: protocol::Head, out: &mut [u8]) -> clus
 }
 
 // Collect: the latest candidate.
-pub(crate) fn collect(memory: &[u8], head: protocol::Head, out: &mut [u8]) -> cluster::Outcome
+pub(crate) fn collect(memory: &[u8], head: protocol::Head, out: &mut [u8]) -> Result<usize, Refusal>
     ensures { AnswersAll 7 memory.now out.old head
-        (record { result = result; memory = memory.now; output = out.new }) }
+        (record { result = outcome_told result; memory = memory.now; output = out.new }) }
 {
     wire::make::make_packet(
         reply_head(head, protocol::kinds::COLLECT_REPLY),
@@ -61,9 +63,9 @@ pub(crate) fn complete(
     head: protocol::Head,
     packet: &[u8],
     out: &mut [u8],
-) -> cluster::Outcome
+) -> Result<usize, Refusal>
     ensures { AnswersFor 5 memory.old packet.now out.old head
-        (record { result = result; memory = memory.new; output = out.new }) }
+        (record { result = outcome_told result; memory = memory.new; output = out.new }) }
 {
     raise(memory, wire::bytes::rest(packet, wire::sizes::HEAD));
     wire::make::make_packet(

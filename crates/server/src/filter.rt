@@ -1,6 +1,7 @@
 // Filter: the highest valid candidate of a list becomes the latest if it is higher, and what is held for its stamp is the reply.
 ghost use Rattle.std.specs.Prelude.{◌≡◌, [], ◌∷◌, ◌++◌, ◌≤◌, drop, get_or};
 ghost use Rattle.cluster.specs.Config.{shelf};
+ghost use Rattle.cluster.specs.Refusals.{outcome_told};
 ghost use Rattle.protocol.specs.Packet.{stamp_f, head_size};
 ghost use Rattle.wire.specs.Places.{length_at, share_size_def};
 ghost use Rattle.server.specs.Answers.{AnswersAs};
@@ -9,6 +10,7 @@ ghost use Rattle.server.specs.Filter.{ChosenAs, ChosenUnder, share_bytes_def, He
 use crate::memory::{Opened, find};
 use crate::rank::{next_rank, slot, slot_with};
 use crate::valid::{by_history, by_tag, digest_nonce};
+use cluster::Refusal;
 use wire::bytes::{part, rest};
 
 // Bytes of a list's count, before its candidates.
@@ -94,8 +96,8 @@ fn reply_held(
     opened: Opened,
     stamp: protocol::Stamp,
     out: &mut [u8],
-) -> cluster::Outcome
-    ensures { HeldAs memory.now head opened stamp out.old (record { result = result; output = out.new }) }
+) -> Result<usize, Refusal>
+    ensures { HeldAs memory.now head opened stamp out.old (record { result = outcome_told result; output = out.new }) }
 {
     let nothing = held_head(stamp, 0);
     let Some(at) = find(memory, opened, &nothing) else {
@@ -123,10 +125,10 @@ pub(crate) fn filter(
     packet: &[u8],
     opened: Opened,
     out: &mut [u8],
-) -> cluster::Outcome
+) -> Result<usize, Refusal>
     requires { (1 ≤ opened.server) × (passed.number ≡ get_or (drop head_size packet.now) 0 0) }
     ensures { AnswersAs 9 memory.old key packet.now out.old passed.head opened
-        (record { result = result; memory = memory.new; output = out.new }) }
+        (record { result = outcome_told result; memory = memory.new; output = out.new }) }
 {
     let head = passed.head;
     let list = rest(rest(packet, wire::sizes::HEAD), COUNT_SIZE);

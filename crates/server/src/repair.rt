@@ -1,9 +1,11 @@
 // Repair: the candidate becomes the latest if it is valid and higher.
 ghost use Rattle.std.specs.Prelude.{◌≤◌};
+ghost use Rattle.cluster.specs.Refusals.{outcome_told};
 ghost use Rattle.server.specs.Answers.{AnswersAs};
 ghost use Rattle.server.specs.Valid.{RaisedAs};
 
 use crate::memory::Opened;
+use cluster::Refusal;
 use wire::bytes::{part, rest};
 
 // A valid candidate is raised.
@@ -23,10 +25,10 @@ pub(crate) fn repair(
     packet: &[u8],
     opened: Opened,
     out: &mut [u8],
-) -> cluster::Outcome
+) -> Result<usize, Refusal>
     requires { 1 ≤ opened.server }
     ensures { AnswersAs 11 memory.old key packet.now out.old head opened
-        (record { result = result; memory = memory.new; output = out.new }) }
+        (record { result = outcome_told result; memory = memory.new; output = out.new }) }
 {
     raise_valid(memory, key, opened, rest(packet, wire::sizes::HEAD));
     wire::make::make_packet(

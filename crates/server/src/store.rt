@@ -1,15 +1,17 @@
 // Store: a write is kept unless its stamp is held or the history is full.
 ghost use Rattle.std.specs.Prelude.{◌≡◌, [], ◌∷◌, ◌<◌};
 ghost use Rattle.cluster.specs.Ranges.{capacity};
+ghost use Rattle.cluster.specs.Refusals.{outcome_told};
 ghost use Rattle.wire.specs.Make.{packet_step};
 ghost use Rattle.server.specs.Answers.{reply_head_def, AnswersOf, kept_bytes};
 
 use crate::memory::{COUNT, Opened, find};
+use cluster::Refusal;
 use wire::bytes::{part, rest};
 
 // The reply: 0, 10 or 11.
-fn store_reply(head: protocol::Head, code: u8, out: &mut [u8]) -> cluster::Outcome
-    ensures { record { result = result; output = out.new } ≡ packet_step (reply_head_def head 4) (code ∷ []) [] out.old }
+fn store_reply(head: protocol::Head, code: u8, out: &mut [u8]) -> Result<usize, Refusal>
+    ensures { record { result = outcome_told result; output = out.new } ≡ packet_step (reply_head_def head 4) (code ∷ []) [] out.old }
 {
     let bytes = [code];
     wire::make::make_packet(
@@ -35,9 +37,9 @@ pub(crate) fn store(
     packet: &[u8],
     opened: Opened,
     out: &mut [u8],
-) -> cluster::Outcome
+) -> Result<usize, Refusal>
     ensures { AnswersOf 3 memory.old packet.now out.old head opened
-        (record { result = result; memory = memory.new; output = out.new }) }
+        (record { result = outcome_told result; memory = memory.new; output = out.new }) }
 {
     let write = rest(packet, wire::sizes::HEAD);
     if find(memory, opened, write).is_some() {

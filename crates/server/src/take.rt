@@ -1,6 +1,7 @@
 // Taking a packet: refused with the lowest number that applies, or answered.
 ghost use Rattle.std.specs.Prelude.{◌≡◌, not, ◌||◌, ◌≤◌, ltb, eqb};
 ghost use Rattle.cluster.specs.Ranges.{top_writer};
+ghost use Rattle.cluster.specs.Refusals.{number_told, outcome_told};
 ghost use Rattle.protocol.specs.Server.{barred};
 ghost use Rattle.protocol.specs.Primitives.{real};
 ghost use Rattle.protocol.specs.ServerBytes.{server_take};
@@ -8,6 +9,7 @@ ghost use Rattle.wire.specs.Places.{packet_at, body_number};
 ghost use Rattle.server.specs.Answers.{EveryPacket, NumberAt, AnswersAny};
 
 use crate::memory::{Opened, open};
+use cluster::Refusal;
 use wire::packet::{Passed, read_packet};
 
 // Whether a client may not send a store or complete of this stamp: only a writer may, and only with a stamp of its own.
@@ -29,23 +31,25 @@ fn barred(head: protocol::Head, label: protocol::Label) -> bool
     }
 }
 
-// Refusals 8, 9 and 15 of a packet that was let through; 0 where none applies.
-fn refusal(head: protocol::Head, label: protocol::Label, opened: Opened, room: usize) -> u8
-    ensures { EveryPacket head label (λ p. NumberAt opened p room result) }
+// A packet that was let through is for this server, from a client that may send it, and there is room for the reply: else 8, 9 or 15.
+fn accept(
+    head: protocol::Head,
+    label: protocol::Label,
+    opened: Opened,
+    room: usize,
+) -> Result<(), Refusal>
+    ensures { EveryPacket head label (λ p. NumberAt opened p room (number_told result)) }
 {
-    if head.t != opened.t {
-        return cluster::refusals::ADDRESSEE;
-    }
-    if head.server != opened.server {
-        return cluster::refusals::ADDRESSEE;
+    if head.t != opened.t || head.server != opened.server {
+        return Err(Refusal::Addressee);
     }
     if barred(head, label) {
-        return cluster::refusals::SENDER;
+        return Err(Refusal::Sender);
     }
     if room < cluster::PACKET_ROOM {
-        return cluster::refusals::ROOM;
+        return Err(Refusal::Room);
     }
-    0
+    Ok(())
 }
 
 // The answer by kind. Of the kinds that are not refused with 9, repair is left at the end.
@@ -56,14 +60,13 @@ fn answer(
     packet: &[u8],
     opened: Opened,
     out: &mut [u8],
-) -> cluster::Outcome
+) -> Result<usize, Refusal>
     requires { (1 ≤ opened.server) × (passed.number ≡ body_number (packet_at passed.head packet.now).body) }
     ensures { AnswersAny memory.old key packet.now out.old passed.head opened
-        (record { result = result; memory = memory.new; output = out.new }) }
+        (record { result = outcome_told result; memory = memory.new; output = out.new }) }
 {
     let head = passed.head;
-    let kind = head.kind;
-    match kind {
+    match head.kind {
         protocol::kinds::CLOCK => crate::answers::clock(memory, head, out),
         protocol::kinds::STORE => crate::store::store(memory, head, packet, opened, out),
         protocol::kinds::COMPLETE => crate::answers::complete(memory, head, packet, out),
@@ -79,22 +82,15 @@ pub fn take(
     key: &[u8; cluster::KEY],
     packet: &[u8],
     out: &mut [u8],
-) -> cluster::Outcome
-    ensures { record { result = result; memory = memory.new; output = out.new }
+) -> Result<usize, Refusal>
+    ensures { record { result = outcome_told result; memory = memory.new; output = out.new }
         ≡ server_take real memory.old key.now packet.now out.old }
 {
     if memory.len() != cluster::MEMORY {
-        return cluster::refused(cluster::refusals::MEMORY_SIZE);
+        return Err(Refusal::MemorySize);
     }
-    let Some(opened) = open(memory) else {
-        return cluster::refused(cluster::refusals::MEMORY);
-    };
-    let Some(passed) = read_packet(packet) else {
-        return cluster::refused(cluster::refusals::LAYOUT);
-    };
-    let number = refusal(passed.head, passed.label, opened, out.len());
-    if number != 0 {
-        return cluster::refused(number);
-    }
+    let opened = open(memory).ok_or(Refusal::Memory)?;
+    let passed = read_packet(packet).ok_or(Refusal::Layout)?;
+    accept(passed.head, passed.label, opened, out.len())?;
     answer(memory, *key, passed, packet, opened, out)
 }

@@ -1,5 +1,5 @@
 -- Each count up to S has its length, and those above keep their 0. Assumes nothing.
-use Rattle.std.proofs.Common.{ℕ, ◌+◌, ◌*◌, ◌≤◌, refl, arith}
+use Rattle.std.proofs.Common.{◌+◌, ◌*◌, ◌≤◌, refl, arith}
 use Rattle.std.proofs.lemmas.List.{get_or-replicate}
 use Rattle.cluster.specs.Ranges.{most_servers}
 use Rattle.erasure.proofs.Fill.{filled_none}

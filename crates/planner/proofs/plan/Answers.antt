@@ -1,8 +1,9 @@
 -- Refused: the number alone. Made: the arguments are in range, and each part is its definition's. Assumes nothing.
-use Rattle.std.proofs.Common.{◌≡◌, sym, ap, ◌∙◌, arith}
+use Rattle.std.proofs.Common.{sym, ap, ◌∙◌, arith}
 use Rattle.std.proofs.lemmas.Result.{err_from_is_err_and}
 use Rattle.planner.proofs.Refused.{plans}
-use Rattle.planner.proofs.Entries.{refused-not0, plan-made, plan-refused}
+use Rattle.planner.proofs.Entries.{plan-made, plan-refused}
+use Rattle.erasure.proofs.Refused.{refused-number}
 use Rattle.planner.specs.Plan.{no_plan}
 use Rattle.planner.proofs.plan.Goals as goal
 
@@ -11,7 +12,7 @@ returns-in_err-accept c =
     let p = err_from_is_err_and c.from_residual.result c.from_residual.ensures.1 in
     let e = c.in_err-accept.ensures in
     rw (p.1, p.2)
-    (sym (plan-refused c.args.t c.args.length c.args.readers c.args.stores (λ z. refused-not0 _ (e ∙ z)) ∙ ap no_plan (sym e)))
+    (sym (plan-refused c.args.t c.args.length c.args.readers c.args.stores (λ z. refused-number _ (e ∙ z)) ∙ ap no_plan (sym e)))
 
 pub overflow_cast-faults : goal.overflow_cast-faults
 overflow_cast-faults c = omega (arith, (plans _ _ _ _ (sym c.in_ok-accept.ensures)).faults)

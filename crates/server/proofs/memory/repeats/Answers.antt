@@ -1,5 +1,5 @@
 -- Above the highest stamp none is held; else it is what is found for the bytes at the place. Assumes nothing.
-use Rattle.std.proofs.Common.{refl, sym, drop}
+use Rattle.std.proofs.Common.{refl, drop}
 use borrow.Author.Tests.{lt-leb}
 use Rattle.server.proofs.Finding.{find-above}
 use Rattle.server.proofs.Once.{repeats_none, repeats_as}

@@ -1,10 +1,8 @@
 -- The walk over the stored writes ends at the first with the stamp's bytes, at a write that is longer than what is left, or past the last. Assumes
 -- nothing.
-use Rattle.std.proofs.Common.{◌≡◌, ◌+◌, ap, arith, length, length-drop, drop}
+use Rattle.std.proofs.Common.{arith}
 use Rattle.cluster.specs.Config.{shelf}
-use Rattle.protocol.specs.Values.{stamp_size}
 use Rattle.wire.specs.Places.{share_size_def}
-use Rattle.server.specs.Reads.{write_size}
 use Rattle.wire.proofs.Lengths.{fragment-few}
 use Rattle.server.proofs.Walk.{walk_none, walk_end, walk_short, walk-found, walk_more, no-fragment, size-told}
 use Rattle.server.proofs.memory.search.Goals as goal

@@ -1,5 +1,5 @@
 -- The best of the slots passed, with one more. Assumes nothing.
-use Rattle.std.proofs.Common.{refl, ◌∙◌, sym, ap, Some}
+use Rattle.std.proofs.Common.{refl, ◌∙◌}
 use Rattle.server.specs.Ranks.{next_rank_def}
 use Rattle.server.proofs.Ranking.{next-higher, next-same}
 use Rattle.server.proofs.rank.next_rank.Goals as goal

@@ -1,5 +1,4 @@
 -- By the history, else by the tag, for which the key is prepared. Assumes nothing.
-use Rattle.std.proofs.Common.{sym}
 use Rattle.server.proofs.Testing.{valid-history, valid-tag}
 use Rattle.server.proofs.valid.valid.Goals as goal
 
