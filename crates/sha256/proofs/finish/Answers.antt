@@ -13,4 +13,4 @@ returns c =
     let rest = take_all (length m - w) (drop w m) (omega (arith, length-drop w m)) in
     c.bytes.ensures
     ∙ ap bytes_of c.absorb.ensures
-    ∙ finished _ m a.d.now _ _ _ a.n w _ refl c.absorb-g.ensures rest refl (omega arith) (omega arith) c.tail.ensures
+    ∙ finished _ m a.d.now _ _ _ a.n w _ refl c.absorb-g.ensures rest refl (omega arith) (omega arith) c.tail-t.ensures

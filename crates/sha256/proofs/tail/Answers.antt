@@ -17,5 +17,4 @@ returns c =
       c.copy_from_slice-2.ensures.after,
       c.copy_from_slice-3.ensures.after,
       c.to_be_bytes.ensures,
-      c.requires.t_value.0,
     )
