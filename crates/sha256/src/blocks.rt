@@ -3,6 +3,7 @@ ghost use Rattle.std.specs.Prelude.{◌≡◌, ◌+◌, ◌*◌, ◌<◌, ◌/�
 ghost use Rattle.sha256.specs.Sha256.{word_at, block, hashed};
 
 use super::turns::compress;
+use std::array;
 
 // The word at byte i.
 #[tactic(auto, unfolding(crate::specs::Sha256::word_at))]
@@ -18,11 +19,7 @@ fn words(m: &[u8], j: usize) -> [u32; 16]
     requires { 64 * j + 63 < length m.now }
     ensures { result ≡ block m.now j }
 {
-    let mut w = [0u32; 16];
-    for i in 0..16 {
-        w[i] = word(m, 64 * j + 4 * i);
-    }
-    w
+    array::from_fn(|i| word(m, 64 * j + 4 * i))
 }
 
 // The hash value after the whole blocks of m.

@@ -1,20 +1,14 @@
-use Rattle.std.proofs.Common.{◌≡◌, arith, refl}
-use Rattle.std.proofs.Math.ListN.{length-set}
-use Rattle.sha256.specs.Sha256.{tab, block}
-use Rattle.sha256.proofs.Laws.{tab_more, tab_all}
+-- Each word is the one of its place.
+use Rattle.std.proofs.Common.{rules, ◌≡◌, ◌+◌, ◌*◌, get_or, arith, sym, ◌∙◌}
+use Rattle.std.proofs.Math.Seq.{ext_get_or}
+use Rattle.sha256.specs.Sha256.{tab, word_at, block}
+use Rattle.sha256.proofs.Laws.{tab_at, tab-length}
 use Rattle.sha256.proofs.blocks.words.Goals as goal
-
-pub loop-i-init : goal.loop-i-init
-unfolding tab
-loop-i-init c = (refl, refl)
-
-pub loop-i-preserved : goal.loop-i-preserved
-loop-i-preserved c =
-    let at = c.loop-i in
-    (simp length-set at.invariant.0, tab_more at.i _ at.w c.word.result (omega arith) at.invariant.1 c.word.ensures)
 
 pub returns : goal.returns
 unfolding block
 returns c =
-    let e : c.loop-i.i ≡ 16 = omega arith in
-    tab_all 16 _ _ c.loop-i.invariant.0 (rw e at c.loop-i.invariant.1)
+    let m = c.args.m.now in
+    let j = c.args.j in
+    ext_get_or 0 _ (tab 16 (λ i. word_at m (64 * j + 4 * i))) (c.from_fn.ensures.items.long ∙ sym (tab-length 16 _))
+    (λ i l. let h : get_or c.from_fn.result i 0 ≡ word_at m (64 * j + 4 * i) = search rules in h ∙ sym (tab_at 16 _ i (omega arith)))
