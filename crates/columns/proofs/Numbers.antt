@@ -5,22 +5,13 @@ use mathlib.Core.List.{List}
 use mathlib.Core.Option.{none, some}
 use Prim.Native.Nat.{ℕ, zero, suc, ◌+◌, ◌-◌, ◌*◌, ◌≤◌, ◌<◌}
 use native.Mathlib.Omega.{arith}
-use native.Mathlib.Nat.{zero-add}
 use native.Mathlib.Numerals.{add-one}
 use lib.ListN.{length, get_or, drop, drop_of_length-le}
 use lib.Seq.{drop-cons}
 use borrow.Author.Tests.{le-leb, lt-leb, eq-eqb, ne_eqb}
-use Rattle.columns.specs.Columns.{column, number, digits}
+use Rattle.columns.specs.Columns.{number, digits}
 
 module _ (s : List ℕ) (i : ℕ) (h : i < length s) where
-  pub column_space : get_or s i 0 ≡ 32 → column (drop i s) ≡ column (drop (i + 1) s)
-  unfolding column
-  column_space e = rw (add-one, drop-cons s i 0 h, eq-eqb _ _ e)
-
-  pub column-number : (get_or s i 0 ≡ 32 → ⊥) → column (drop i s) ≡ number (drop i s)
-  unfolding column
-  column-number e = rw (drop-cons s i 0 h, ne_eqb _ _ e)
-
   pub digits_more : (v : ℕ) → 48 ≤ get_or s i 0 → get_or s i 0 ≤ 57 → digits v (drop i s) ≡ digits (10 * v + (get_or s i 0 - 48)) (drop (i + 1) s)
   unfolding digits
   digits_more v l k = rw (add-one, drop-cons s i 0 h, le-leb _ _ l, le-leb _ _ k)
@@ -34,10 +25,6 @@ module _ (s : List ℕ) (i : ℕ) (h : i < length s) where
   digits-high v l k = rw (drop-cons s i 0 h, le-leb _ _ l, lt-leb _ _ k)
 
 module _ (s : List ℕ) (i : ℕ) where
-  pub column-end : length s ≤ i → column (drop i s) ≡ number (drop i s)
-  unfolding column number
-  column-end h = rw (drop_of_length-le s h)
-
   pub digits-end : (v : ℕ) → length s ≤ i → digits v (drop i s) ≡ some v
   unfolding digits
   digits-end v h = rw (drop_of_length-le s h)
@@ -64,17 +51,6 @@ abbrev pub tens : ℕ → ℕ
 tens zero = 1
 tens (suc n) = 10 * tens n
 
-pub tens_pos : (n : ℕ) → 0 < tens n
-tens_pos zero = omega arith
-tens_pos (suc n) = let h = tens_pos n in omega arith
-
-tens-add : (n k : ℕ) → tens n ≤ tens (k + n)
-tens-add n zero = rw zero-add (omega arith)
-tens-add n (suc k) = let h = tens-add n k in let e : suc k + n ≡ suc (k + n) = omega arith in rw e (omega arith)
-
 -- one digit more
 pub tens_more : (v i d : ℕ) → v < tens i → d ≤ 9 → 10 * v + d < tens (i + 1)
 tens_more v i d h k = rw add-one (omega arith)
-
-pub tens-fits : (i : ℕ) → i ≤ 8 → tens i ≤ 100000000
-tens-fits i h = let e : 8 - i + i ≡ 8 = omega arith in rw e at (tens-add i (8 - i))

@@ -27,9 +27,6 @@ pub record Printing (v i rest : ℕ) (a : List ℕ) : Type 0 where
   pub front : take i a ≡ replicate i 32
   pub back : justified column_size v ≡ justified i rest ++ drop i a
 
-pub printing_none : (v : ℕ) → Printing v 8 v (replicate 8 32)
-printing_none v = record { size = refl; left = omega arith; front = refl; back = sym (append-nil (justified 8 v)) }
-
 module _ (v j rest : ℕ) (a : List ℕ) (p : Printing v (suc j) rest a) where
   room : j < length a
   room = omega (arith, p.size, p.left)

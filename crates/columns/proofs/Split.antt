@@ -5,27 +5,13 @@ use mathlib.Core.Bool.{Bool, true, false, cond}
 use mathlib.Core.List.{List, [], ◌∷◌}
 use Prim.Native.Nat.{ℕ, suc, ◌+◌, ◌≤◌, ◌<◌}
 use native.Mathlib.Omega.{arith}
-use native.Mathlib.Numerals.{add-one}
 use lib.Dec.{ltb, eqb}
 use lib.ListN.{length, get_or, take, drop, drop_of_length-le, length-drop}
 use lib.Seq.{drop-cons, drop-drop}
-use borrow.Author.Tests.{eq-eqb, ne_eqb, lt-ltb, le-ltb, ltb-true, ltb-false}
+use borrow.Author.Tests.{lt-ltb, le-ltb, ltb-true, ltb-false}
 use Rattle.columns.specs.Lines.{Text, newline, before, lines, line_length, line_end_def, line_at, next_at}
 
 -- ---- where a line ends
-
-module _ (s : List ℕ) (i : ℕ) where
-  pub end_more : i < length s → (get_or s i 0 ≡ newline → ⊥) → line_end_def s i ≡ line_end_def s (i + 1)
-  unfolding line_end_def line_length
-  end_more h e = rw (drop-cons s i 0 h, ne_eqb _ _ e, add-one) (omega arith)
-
-  pub end_here : i < length s → get_or s i 0 ≡ newline → line_end_def s i ≡ i
-  unfolding line_end_def line_length
-  end_here h e = rw (drop-cons s i 0 h, eq-eqb _ _ e) (omega arith)
-
-  pub end_last : length s ≤ i → line_end_def s i ≡ i
-  unfolding line_end_def line_length
-  end_last h = rw (drop_of_length-le s {i = i} h) (omega arith)
 
 line-fits : (s : List ℕ) → line_length s ≤ length s
 unfolding line_length
