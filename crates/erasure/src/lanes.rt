@@ -25,10 +25,8 @@ fn doubled(x: [u8; LANE]) -> [u8; LANE]
     ensures { Lane result (λ i. xtime (get_or x i 0)) }
 {
     let mut out = [0u8; LANE];
-    let mut i: usize = 0;
-    while i < LANE {
+    for i in 0..LANE {
         out[i] = gf256::double(x[i]);
-        i += 1;
     }
     out
 }
