@@ -38,10 +38,8 @@ fn added(sum: [u8; LANE], x: [u8; LANE], w: u8, b: u32) -> [u8; LANE]
 {
     let m = gf256::mask(w >> b);
     let mut out = [0u8; LANE];
-    let mut i: usize = 0;
-    while i < LANE {
+    for i in 0..LANE {
         out[i] = sum[i] ^ (x[i] & m);
-        i += 1;
     }
     out
 }
