@@ -56,11 +56,10 @@ fn bit_step(
     ensures { Lane result (λ i. bit_xor (xtime (get_or sum i 0)) (sum_to k (λ j. bit_of (get_or weights j 0) b * entry lanes.now j i))) }
 {
     let mut out = doubled(sum);
-    let mut j: usize = 0;
-    while j < k {
+    for j in 0..k {
+        // in two steps: no proof is made of a call whose result is laid in an array that stands
         let more = added(out, lanes[j], weights[j], b);
         out = more;
-        j += 1;
     }
     out
 }
