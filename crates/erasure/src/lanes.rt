@@ -70,11 +70,10 @@ fn lane_sum(lanes: &[[u8; LANE]; WIDTH], weights: [u8; WIDTH], k: usize) -> [u8;
     ensures { Lane result (λ i. sum_to k (λ j. times (entry lanes.now j i) (get_or weights j 0))) }
 {
     let mut out = [0u8; LANE];
-    let mut n: u32 = 0;
-    while n < 8 {
+    for n in 0..8 {
+        // in two steps: no proof is made of a call whose result is laid in an array that stands
         let more = bit_step(out, lanes, weights, 7 - n, k);
         out = more;
-        n += 1;
     }
     out
 }
