@@ -78,49 +78,15 @@ fn lane_sum(lanes: &[[u8; LANE]; WIDTH], weights: [u8; WIDTH], k: usize) -> [u8;
     out
 }
 
-// The lane of src from at on, all of which is there.
-fn whole_lane(src: &[u8], at: usize) -> [u8; LANE]
-    requires { at + lane ≤ length src.now }
-    ensures { Lane result (λ i. get_or src.now (at + i) 0) }
-{
-    let mut out = [0u8; LANE];
-    let mut i: usize = 0;
-    while i < LANE {
-        out[i] = src[at + i];
-        i += 1;
-    }
-    out
-}
-
-// The byte at i, or 0 past the end.
-fn byte_at(src: &[u8], i: usize) -> u8
-    ensures { result ≡ get_or src.now i 0 }
-{
-    if i < src.len() { src[i] } else { 0 }
-}
-
 // The lane of src from at on, with 00h past the end.
-fn part_lane(src: &[u8], at: usize) -> [u8; LANE]
-    requires { at ≤ length src.now + width }
-    ensures { Lane result (λ i. get_or src.now (at + i) 0) }
-{
-    let mut out = [0u8; LANE];
-    let mut i: usize = 0;
-    while i < LANE {
-        out[i] = byte_at(src, at + i);
-        i += 1;
-    }
-    out
-}
-
 fn lane_at(src: &[u8], at: usize) -> [u8; LANE]
-    requires { at ≤ length src.now + width }
     ensures { Lane result (λ i. get_or src.now (at + i) 0) }
 {
-    if at + LANE <= src.len() {
-        return whole_lane(src, at);
-    }
-    part_lane(src, at)
+    let from = at.min(src.len());
+    let n = LANE.min(src.len() - from);
+    let mut out = [0u8; LANE];
+    out[..n].copy_from_slice(&src[from..from + n]);
+    out
 }
 
 // The lanes of the first k runs from place q on, written over the first k of out.
