@@ -95,10 +95,8 @@ fn gather(out: &mut [[u8; LANE]; WIDTH], src: &[u8], starts: [usize; WIDTH], q: 
     ensures { ((j : ℕ) → j < k → Lane (get_or out.new j []) (λ i. byte_at src.now starts (q + i) j))
         × (length out.new ≡ width) }
 {
-    let mut j: usize = 0;
-    while j < k {
+    for j in 0..k {
         out[j] = lane_at(src, starts[j] + q);
-        j += 1;
     }
 }
 
