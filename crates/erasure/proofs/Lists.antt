@@ -7,8 +7,8 @@ use Prim.Native.Nat.{ℕ, zero, suc, ◌+◌, ◌-◌, ◌<◌, ◌≤◌, suc-l
 use native.Mathlib.Nat.{zero-lt-suc, zero-add, le_of_suc-le-suc, not-suc-le-zero}
 use native.Mathlib.Decide.{dec_lt}
 use native.Mathlib.Omega.{arith}
-use lib.ListN.{length, get_or, set, take, drop, length-append, length-drop, length-set, get_or-append}
-use lib.Seq.{ext_get_or, length-take-le, get_or-take, get_or-drop, get_or-append-add, get_or-append_right, get_or-set_same, get_or-set_other}
+use lib.ListN.{length, get_or, take, drop, length-append, length-drop, get_or-append}
+use lib.Seq.{ext_get_or, length-take-le, get_or-take, get_or-drop, get_or-append-add, get_or-append_right}
 use borrow.Rule.Slice.PartMut.{put_mid}
 use Rattle.std.proofs.lemmas.Grind.{common_steps, elements, moves, pieces}
 use Rattle.gf256.proofs.Byte.{Small}
@@ -91,9 +91,6 @@ distinct_at (x ∷ xs) d (suc i) (suc j) l h = distinct_at xs d.1 i j (le_of_suc
 
 -- ---- writing from a place on
 
-pub written_none : (old : List ℕ) (at : ℕ) (g : ℕ → ℕ) → RunWritten old old at 0 g
-written_none old at g = record { long = refl; here = λ i h. absurd (not-suc-le-zero h); below = λ i h. refl; above = λ i h. refl }
-
 -- a second piece behind the first
 pub written_on : (old mid new : List ℕ) (at n m : ℕ) (g : ℕ → ℕ) → RunWritten old mid at n g → RunWritten mid new (at + n) m (λ i. g (n + i))
     → RunWritten old
@@ -117,22 +114,6 @@ pub written_next : (old mid new : List ℕ) (n m : ℕ) (g : ℕ → ℕ) → Ru
     (n + m) g
 written_next old mid new n m g a b = written_on old mid new 0 n m g a (subst (λ (x : ℕ). RunWritten mid new x m (λ i. g (n + i))) (sym (zero-add n))
     b)
-
-written_one : (old : List ℕ) (at v : ℕ) → at < length old → RunWritten old (set old at v) at 1 (λ i. v)
-written_one old at v h = record {
-  long = length-set old at v;
-  here = λ i l. ap (λ (x : ℕ). get_or (set old at v) x 0) (omega arith) ∙ get_or-set_same old at v 0 h;
-  below = λ i l. get_or-set_other old at i v 0 (λ e. omega arith);
-  above = λ i l. get_or-set_other old at i v 0 (λ e. omega arith);
-}
-
--- one byte more
-pub written_more : (old mid : List ℕ) (at i : ℕ) (g : ℕ → ℕ) (v : ℕ) → at + i < length mid → v ≡ g i → RunWritten old mid at i g
-    → RunWritten old (set mid (at + i) v) at (i + 1) g
-written_more old mid at i g v h e w =
-    let one : RunWritten mid (set mid (at + i) v) (at + i) 1 (λ j. v) = written_one mid (at + i) v h in
-    written_on old mid (set mid (at + i) v) at i 1 g w
-    (record { long = one.long; here = λ j l. one.here j l ∙ e ∙ ap g (omega arith); below = one.below; above = one.above })
 
 -- a byte that was written from the start on
 pub written_at : (old new : List ℕ) (n : ℕ) (g : ℕ → ℕ) → RunWritten old new 0 n g → (i : ℕ) → i < n → get_or new i 0 ≡ g i
@@ -169,10 +150,19 @@ put_written old ys at m k g long same fits are = record {
     past : (i j : ℕ) → at + j ≡ i → get_or (take at old ++ (ys ++ rest)) i 0 ≡ get_or (ys ++ rest) j 0
     past i j e = get_or-append_right (take at old) (ys ++ rest) i 0 (omega (arith, lead)) ∙ ap (λ (x : ℕ). get_or (ys ++ rest) x 0) (omega (arith, lead))
 
--- and with a part of src put there
-pub put_copied : (old src ys : List ℕ) (at from m k n : ℕ) → ys ≡ take n (drop from src) → n ≡ m → k ≡ m → from + m ≤ length src → at + m ≤ length old
-    → RunWritten old (put_mid at k old ys) at m (λ i. get_or src (from + i) 0)
-put_copied old src ys at from m k n part same same' there fits =
-    put_written old ys at m k (λ i. get_or src (from + i) 0)
-    (ap length part ∙ length-take-le n (drop from src) (omega (arith, length-drop {A = ℕ} from src)) ∙ same) same' fits
-    (λ i h. ap (λ (l : List ℕ). get_or l i 0) part ∙ get_or-take n (drop from src) i 0 (omega arith) ∙ get_or-drop from src i 0)
+-- a piece more, put behind the first q bytes
+pub written_step : (old mid ys : List ℕ) (q n k d e : ℕ) (g : ℕ → ℕ) → RunWritten old mid 0 d g → d ≡ q → length ys ≡ n → k ≡ n → q + n ≤ length mid
+    → ((i : ℕ) → i < n → get_or ys i 0 ≡ g (q + i)) → e ≡ q + n → RunWritten old (put_mid q k mid ys) 0 e g
+written_step old mid ys q n k d e g before start long same fits are end =
+    subst (λ (x : ℕ). RunWritten old (put_mid q k mid ys) 0 x g) (sym end)
+    (written_next old mid (put_mid q k mid ys) q n g (subst (λ (x : ℕ). RunWritten old mid 0 x g) start before)
+    (put_written mid ys q n k (λ i. g (q + i)) long same fits are))
+
+-- a part of src
+pub part_long : (src ys : List ℕ) (from m n : ℕ) → ys ≡ take n (drop from src) → n ≡ m → from + m ≤ length src → length ys ≡ m
+part_long src ys from m n part same there =
+    ap length part ∙ length-take-le n (drop from src) (omega (arith, length-drop {A = ℕ} from src)) ∙ same
+
+pub part_at : (src ys : List ℕ) (from m n : ℕ) → ys ≡ take n (drop from src) → n ≡ m → (i : ℕ) → i < m → get_or ys i 0 ≡ get_or src (from + i) 0
+part_at src ys from m n part same i h =
+    ap (λ (l : List ℕ). get_or l i 0) part ∙ get_or-take n (drop from src) i 0 (omega arith) ∙ get_or-drop from src i 0

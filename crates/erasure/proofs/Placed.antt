@@ -3,7 +3,7 @@
 use mathlib.Core.Path.{◌≡◌, sym, ap, ap₂, subst, ◌∙◌}
 use mathlib.Core.List.{List, ◌++◌}
 use Prim.Native.Nat.{ℕ, suc, zero, ◌+◌, ◌-◌, ◌*◌, ◌<◌, ◌≤◌}
-use native.Mathlib.Nat.{zero-add, mul-le-mul, mul-le-mul_right, suc-mul}
+use native.Mathlib.Nat.{zero-add, mul-le-mul_right, suc-mul}
 use native.Mathlib.Decide.{dec_lt}
 use native.Mathlib.Omega.{arith}
 use lib.ListN.{length, get_or, take, drop, get_or-eq_default, replicate, length-replicate, get_or-replicate}
@@ -13,7 +13,6 @@ use Rattle.gf256.specs.Poly.{through}
 use Rattle.gf256.specs.Bytes.{bytes}
 use Rattle.gf256.proofs.Byte.{through-value}
 use Rattle.erasure.specs.Fragments.{table, fragment_size_def}
-use Rattle.erasure.specs.Steps.{fragment_room}
 use Rattle.erasure.specs.System.{width, AllDifferent, Weighs}
 use Rattle.erasure.specs.Lanes.{byte_at, sum_at, RunWritten, value_from, plain_of}
 use Rattle.erasure.proofs.Laws.{runs-most}
@@ -25,11 +24,7 @@ table_ext n g h e = table_is n (table n g) h (length-table n g) (λ i b. get_or-
 
 -- ---- where the plain runs stand
 
--- they begin low
-pub plain-start : (k f j x : ℕ) → k ≤ width → f ≤ fragment_room → j < k → x ≡ j → x * f ≤ width * fragment_room
-plain-start k f j x kw fr h e = mul-le-mul {n₁ = x} {m₁ = f} {n₂ = width} {m₂ = fragment_room} (omega arith) fr
-
--- and do not end far past the content
+-- they do not end far past the content
 pub plain_end : (k n j : ℕ) → k ≤ width → j < k → j * fragment_size_def k n + fragment_size_def k n ≤ n + width
 plain_end k n j kw h =
     let f : ℕ = fragment_size_def k n in

@@ -3,7 +3,7 @@
 use mathlib.Core.Path.{◌≡◌, sym, ap, ap₂, subst, ◌∙◌}
 use mathlib.Core.List.{List, ◌++◌}
 use Prim.Native.Nat.{ℕ, ◌+◌, ◌-◌, ◌*◌, ◌/◌, ◌%◌, ◌<◌, ◌≤◌}
-use native.Mathlib.Nat.{lt_of_lt_of_le, lt_of_mul-lt-mul_left, add-zero, mod-lt, mul-le-mul_right, suc-mul}
+use native.Mathlib.Nat.{mul-mod_left, mul-div_cancel, lt_of_lt_of_le, lt_of_mul-lt-mul_left, add-zero, mod-lt, mul-le-mul_right, suc-mul}
 use native.Mathlib.Nat.{div-lt_iff_lt-mul, div-add-mod', mul-add-div_right, mul-add-mod_self_right, mod-eq_of_lt, div-eq_of_lt}
 use native.Mathlib.Omega.{arith}
 use lib.ListN.{length, get_or, take, get_or-append}
@@ -13,10 +13,10 @@ use Rattle.gf256.specs.Bytes.{bytes}
 use Rattle.cluster.specs.Config.{point_of}
 use Rattle.erasure.specs.Fragments.{table, fragment_size_def}
 use Rattle.erasure.specs.System.{sum_to, AllDifferent}
-use Rattle.erasure.specs.Lanes.{byte_at, sum_at, RunWritten, value_from, weighed_of, rebuilt_of}
+use Rattle.erasure.specs.Lanes.{byte_at, sum_at, value_from, weighed_of, rebuilt_of}
 use Rattle.erasure.specs.Weights.{weight_of, weight_rows, weighed_bytes}
 use Rattle.erasure.proofs.Laws.{run-lt}
-use Rattle.erasure.proofs.Lists.{length-table, get_or-table, written_next, written_as}
+use Rattle.erasure.proofs.Lists.{length-table, get_or-table}
 use Rattle.erasure.proofs.Placed.{table_ext, sum_through}
 use Rattle.erasure.proofs.Sums.{sum_to_ext}
 use Rattle.erasure.proofs.Units.{weigh}
@@ -46,21 +46,17 @@ run_point k f n d hn hd = (div-lt_iff_lt-mul (run_pos k f n d hn hd)).1 (lt_of_l
 abbrev pub byte_of : (k f : ℕ) (rows fragments starts : List ℕ) → ℕ → ℕ
 byte_of k f rows fragments starts m = sum_at k (λ j. get_or rows (m / f * k + j) 0) fragments starts (m % f)
 
--- one run more
-pub run_more : (k f d m : ℕ) (rows row fragments starts old mid new : List ℕ) → d % f ≡ 0 → m ≤ f
-    → ((j : ℕ) → j < k → get_or row j 0 ≡ get_or rows (d / f * k + j) 0) → RunWritten old mid 0 d (byte_of k f rows fragments starts)
-    → RunWritten mid new d m (sum_at k (λ j. get_or row j 0) fragments starts) → RunWritten old new 0 (d + m) (byte_of k f rows fragments starts)
+-- byte q of run i, which the run's row weighs
+pub run_byte : (k f i q : ℕ) (rows row fragments starts : List ℕ) → q < f → ((j : ℕ) → j < k → get_or row j 0 ≡ get_or rows (i * k + j) 0)
+    → sum_at k (λ j. get_or row j 0) fragments starts q ≡ byte_of k f rows fragments starts (i * f + q)
 unfolding sum_at
-run_more k f d m rows row fragments starts old mid new e hm are before piece =
+run_byte k f i q rows row fragments starts h are =
     let byte : ℕ → ℕ → ℕ = λ i. sum_at k (λ j. get_or rows (i * k + j) 0) fragments starts in
-    written_next old mid new d m (byte_of k f rows fragments starts) before
-    (written_as mid new d m (sum_at k (λ j. get_or row j 0) fragments starts) (λ i. byte_of k f rows fragments starts (d + i))
-    (λ i h.
-    let hi : i < f = omega arith in
-    sum_to_ext k (λ j. times (byte_at fragments starts i j) (get_or row j 0)) (λ j. times (byte_at fragments starts i j) (get_or rows (d / f * k + j) 0))
-    (λ j b. ap (times (byte_at fragments starts i j)) (are j b))
-    ∙ ap₂ byte (sym (run-div f d i e hi)) (sym (run-mod f d i e hi)))
-    piece)
+    let whole : i * f % f ≡ 0 = mul-mod_left i f in
+    let run : i * f / f ≡ i = mul-div_cancel i (omega arith) in
+    sum_to_ext k (λ j. times (byte_at fragments starts q j) (get_or row j 0)) (λ j. times (byte_at fragments starts q j) (get_or rows (i * k + j) 0))
+    (λ j b. ap (times (byte_at fragments starts q j)) (are j b))
+    ∙ ap₂ byte (sym (run-div f (i * f) q whole h ∙ run)) (sym (run-mod f (i * f) q whole h))
 
 -- ---- the rows
 

@@ -3,13 +3,14 @@
 ghost use Rattle.std.specs.Prelude.{◌≡◌, ℕ, ◌+◌, ◌*◌, ◌<◌, ◌≤◌, get_or, length, []};
 ghost use Rattle.std.specs.Int.Bits.{bit_xor};
 ghost use Rattle.gf256.specs.Gf.{xtime, times};
+ghost use Rattle.erasure.specs.Fragments.{table};
 ghost use Rattle.erasure.specs.System.{width, entry, sum_to};
-ghost use Rattle.erasure.specs.Lanes.{lane, bit_of, Lane, byte_at, sum_at, RunWritten};
+ghost use Rattle.erasure.specs.Lanes.{lane, bit_of, Lane, byte_at, sum_at};
+
+use crate::system::WIDTH;
 
 // How many places are worked on together.
 const LANE: usize = 128;
-
-const WIDTH: usize = crate::system::WIDTH;
 
 // Runs of bytes that stand in a slice: where each begins, how many they are, and how long each is. A run may end past the slice's end, where
 // it reads as 00h; but since runs are a content divided by their number and rounded up, no further past it than they are many.
@@ -100,39 +101,12 @@ fn gather(out: &mut [[u8; LANE]; WIDTH], src: &[u8], starts: [usize; WIDTH], q: 
     }
 }
 
-// The first m bytes of a lane, written from place at on.
-fn store(out: &mut [u8], at: usize, m: usize, x: [u8; LANE])
-    requires { (m ≤ lane) × (at + m ≤ length out.old) }
-    ensures { RunWritten out.old out.new at m (λ i. get_or x i 0) }
-{
-    let mut i: usize = 0;
-    while i < m {
-        out[at + i] = x[i];
-        i += 1;
-    }
-}
-
-// What is left, but at most a lane.
-fn at_most_lane(left: usize) -> usize
-    ensures { (result ≤ left) × (result ≤ lane) × (0 < left → 0 < result) }
-{
-    if left < LANE { left } else { LANE }
-}
-
-// The sum of the runs, each times its weight: m places of it, written from place at on. There is always a run; the test says so to the
-// compiler, whose code for the loop is slower where it cannot know.
-pub(crate) fn combine(
-    weights: [u8; WIDTH],
-    runs: Runs,
-    src: &[u8],
-    out: &mut [u8],
-    at: usize,
-    m: usize,
-)
-    requires { (runs.count ≤ width) × ((j : ℕ) → j < runs.count → get_or runs.starts j 0 + m ≤ length src.now + width)
-        × (at + m ≤ length out.old) × (1 ≤ runs.count) }
-    ensures { RunWritten out.old out.new at m
-        (sum_at runs.count (λ j. get_or weights j 0) src.now runs.starts) }
+// The sum of the runs, each times its weight, at each place of out. There is always a run; the test says so to the compiler, whose code for the
+// loop is slower where it cannot know. The lanes are counted: of `chunks_mut` a proof knows no elements.
+pub(crate) fn combine(weights: [u8; WIDTH], runs: Runs, src: &[u8], out: &mut [u8])
+    requires { (runs.count ≤ width) × ((j : ℕ) → j < runs.count → get_or runs.starts j 0 + length out.old ≤ length src.now + width)
+        × (1 ≤ runs.count) }
+    ensures { out.new ≡ table (length out.old) (sum_at runs.count (λ j. get_or weights j 0) src.now runs.starts) }
 {
     let starts = runs.starts;
     let k = runs.count;
@@ -140,24 +114,11 @@ pub(crate) fn combine(
         return;
     }
     let mut lanes = [[0u8; LANE]; WIDTH];
-    let mut q: usize = 0;
-    while q < m {
-        let n = at_most_lane(m - q);
+    for i in 0..out.len().div_ceil(LANE) {
+        let q = i * LANE;
+        let n = LANE.min(out.len() - q);
         gather(&mut lanes, src, starts, q, k);
         let sum = lane_sum(&lanes, weights, k);
-        store(out, at + q, n, sum);
-        q += n;
-    }
-}
-
-// The m bytes of src from place `from` on, written from place at on.
-pub(crate) fn copy(src: &[u8], from: usize, out: &mut [u8], at: usize, m: usize)
-    requires { (from + m ≤ length src.now) × (at + m ≤ length out.old) }
-    ensures { RunWritten out.old out.new at m (λ i. get_or src.now (from + i) 0) }
-{
-    let mut i: usize = 0;
-    while i < m {
-        out[at + i] = src[from + i];
-        i += 1;
+        out[q..q + n].copy_from_slice(&sum[..n]);
     }
 }

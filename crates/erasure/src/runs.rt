@@ -1,32 +1,22 @@
 // The value at a point from the runs at other points: a fragment from the plain runs of a content, and the plain runs from fragments.
 ghost use Rattle.std.specs.Prelude.{◌≡◌, ◌++◌, map, ℕ, ◌+◌, ◌-◌, ◌*◌, ◌<◌, ◌≤◌, get_or, length, drop, replicate};
 ghost use Rattle.cluster.specs.Config.{point_of, PointTable};
-ghost use Rattle.erasure.specs.Fragments.{fragment_size_def, fragment};
+ghost use Rattle.erasure.specs.Fragments.{table, fragment_size_def, fragment};
 ghost use Rattle.erasure.specs.Steps.{fragment_room};
 ghost use Rattle.erasure.specs.System.{width, AllDifferent};
-ghost use Rattle.erasure.specs.Lanes.{RunWritten, sum_at, value_from, plain_of, weighed_of, rebuilt_of};
+ghost use Rattle.erasure.specs.Lanes.{sum_at, value_from, plain_of, weighed_of, rebuilt_of};
 ghost use Rattle.erasure.specs.Weights.{weighed_bytes};
 
 use crate::choice::Chosen;
 use crate::lanes::Runs;
-
-const WIDTH: usize = crate::system::WIDTH;
-
-const ROOM: usize = crate::ROOM;
-
-const ROWS: usize = crate::ROWS;
+use crate::system::WIDTH;
+use crate::{ROOM, ROWS};
 
 // Where the plain runs stand: 0, 1, ..
 fn plain_places() -> [usize; WIDTH]
     ensures { (j : ℕ) → j < width → get_or result j 0 ≡ j }
 {
-    let mut out = [0usize; WIDTH];
-    let mut j: usize = 0;
-    while j < WIDTH {
-        out[j] = j;
-        j += 1;
-    }
-    out
+    std::array::from_fn(|j| j)
 }
 
 // The runs of f bytes at the first k places.
@@ -35,10 +25,8 @@ fn runs_at(at: [usize; WIDTH], f: usize, k: usize) -> Runs
     ensures { (result.count ≡ k) × (result.size ≡ f) × ((j : ℕ) → j < k → get_or result.starts j 0 ≡ get_or at j 0 * f) }
 {
     let mut out = [0usize; WIDTH];
-    let mut j: usize = 0;
-    while j < k {
+    for j in 0..k {
         out[j] = at[j] * f;
-        j += 1;
     }
     Runs {
         starts: out,
@@ -71,15 +59,8 @@ fn value(points: &[u8], runs: Runs, src: &[u8], z: u8) -> [u8; ROOM]
 {
     let weights = crate::direct::weights(points, runs.count, z);
     let mut bytes = blank();
-    crate::lanes::combine(weights, runs, src, &mut bytes, 0, runs.size);
+    crate::lanes::combine(weights, runs, src, &mut bytes[..runs.size]);
     bytes
-}
-
-// What is left, but at most f.
-fn at_most(f: usize, left: usize) -> usize
-    ensures { (result ≤ left) × (result ≤ f) × (0 < left → 0 < f → 0 < result) × (result < left → result ≡ f) }
-{
-    if left < f { left } else { f }
 }
 
 // The plain run j of a content, padded with 00h.
@@ -87,13 +68,10 @@ fn plain(f: usize, j: usize, content: &[u8]) -> [u8; ROOM]
     requires { (f ≤ fragment_room) × (j < width) }
     ensures { result ≡ plain_of f j content.now ++ replicate (fragment_room - f) 0 }
 {
-    let from = j * f;
+    let from = content.len().min(j * f);
+    let m = f.min(content.len() - from);
     let mut bytes = blank();
-    if content.len() <= from {
-        return bytes;
-    }
-    let m = at_most(f, content.len() - from);
-    crate::lanes::copy(content, from, &mut bytes, 0, m);
+    bytes[..m].copy_from_slice(&content[from..from + m]);
     bytes
 }
 
@@ -110,37 +88,35 @@ pub(crate) fn make(points: &[u8], k: usize, f: usize, server: usize, content: &[
     value(points, plain_runs(f, k), content, points[server - 1])
 }
 
-// m bytes of a run, written from place at on: a copy where its row copies, and otherwise the sum that it weighs.
-fn run(row: [u8; WIDTH], runs: Runs, fragments: &[u8], out: &mut [u8], at: usize, m: usize)
-    requires { (runs.count ≤ width) × ((j : ℕ) → j < runs.count → get_or runs.starts j 0 + m ≤ length fragments.now)
-        × (at + m ≤ length out.old) × (1 ≤ runs.count) }
-    ensures { RunWritten out.old out.new at m
-        (sum_at runs.count (λ j. get_or row j 0) fragments.now runs.starts) }
+// A run, as far as out goes: a copy where its row copies, and otherwise the sum that it weighs.
+fn run(row: [u8; WIDTH], runs: Runs, fragments: &[u8], out: &mut [u8])
+    requires { (runs.count ≤ width) × ((j : ℕ) → j < runs.count → get_or runs.starts j 0 + length out.old ≤ length fragments.now)
+        × (1 ≤ runs.count) }
+    ensures { out.new ≡ table (length out.old) (sum_at runs.count (λ j. get_or row j 0) fragments.now runs.starts) }
 {
     match crate::weighing::unit_of(row, runs.count) {
         Some(j) => {
             let from = runs.starts[j];
-            out[at..at + m].copy_from_slice(&fragments[from..from + m]);
+            out.copy_from_slice(&fragments[from..from + out.len()]);
         }
-        None => crate::lanes::combine(row, runs, fragments, out, at, m),
+        None => crate::lanes::combine(row, runs, fragments, out),
     }
 }
 
 // The content of n bytes, run after run, each weighed by its row.
 fn write_runs(rows: [u8; ROWS], runs: Runs, fragments: &[u8], n: usize, out: &mut [u8])
     requires { (runs.count ≤ width) × (n ≤ runs.count * runs.size) × (n ≤ length out.old)
-        × ((j : ℕ) → j < runs.count → get_or runs.starts j 0 + runs.size ≤ length fragments.now) }
+        × ((j : ℕ) → j < runs.count → get_or runs.starts j 0 + runs.size ≤ length fragments.now) × (runs.size ≤ fragment_room) }
     ensures { out.new ≡ weighed_of runs.count runs.size n rows fragments.now runs.starts
         ++ drop n out.old }
 {
     let k = runs.count;
     let f = runs.size;
-    let mut done: usize = 0;
-    while done < n {
-        let row = crate::weighing::row_at(rows, k, done / f);
-        let m = at_most(f, n - done);
-        run(row, runs, fragments, out, done, m);
-        done += m;
+    for i in 0..k {
+        let row = crate::weighing::row_at(rows, k, i);
+        let from = n.min(i * f);
+        let m = f.min(n - from);
+        run(row, runs, fragments, &mut out[from..from + m]);
     }
 }
 
@@ -156,13 +132,13 @@ pub(crate) fn rebuild(
     requires { (1 ≤ c.count) × (c.count ≤ width) × (c.count ≤ length points.now) × (PointTable points.now)
         × AllDifferent c.count c.servers
         × ((j : ℕ) → j < c.count → (1 ≤ get_or c.servers j 0) × (get_or c.servers j 0 ≤ length points.now))
-        × (n ≤ c.count * f) × (n ≤ length out.old) × ((j : ℕ) → j < c.count → get_or c.at j 0 * f + f ≤ length fragments.now) }
+        × (n ≤ c.count * f) × (n ≤ length out.old) × ((j : ℕ) → j < c.count → get_or c.at j 0 * f + f ≤ length fragments.now)
+        × (f ≤ fragment_room) }
     ensures { out.new ≡ rebuilt_of c.count f n points.now (map (point_of points.now) c.servers)
         fragments.now (map (λ p. p * f) c.at) ++ drop n out.old }
 {
-    let at = c.at;
     let rows = crate::weighing::of_chosen(points, c);
-    write_runs(rows, runs_at(at, f, c.count), fragments, n, out);
+    write_runs(rows, runs_at(c.at, f, c.count), fragments, n, out);
 }
 
 // The content of n bytes that k fragments of f bytes, one after the other, give by these rows, at the start of out.

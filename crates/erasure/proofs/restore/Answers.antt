@@ -7,12 +7,12 @@ use Rattle.cluster.specs.Config.{shelf, point_of}
 use Rattle.cluster.specs.Refusals.{first_of}
 use Rattle.erasure.specs.Fragments.{fragment_size_def, restored}
 use Rattle.erasure.specs.Choice.{first_different, parts_at}
-use Rattle.erasure.specs.Steps.{argument_checks, restored_bytes}
+use Rattle.erasure.specs.Steps.{fragment_room, argument_checks, restored_bytes}
 use Rattle.erasure.specs.System.{width}
 use Rattle.erasure.specs.Lanes.{rebuilt_of}
 use Rattle.erasure.proofs.Laws.{runs_cover}
 use Rattle.erasure.proofs.Refused.{Restores, restores, refused-number}
-use Rattle.erasure.proofs.Answers.{lent}
+use Rattle.erasure.proofs.Answers.{lent, size_fits}
 use Rattle.erasure.proofs.Chosen.{restore-refused, restore-accepted, refused_arguments, refused-few, refused_none}
 use Rattle.erasure.proofs.Chosen.{counted, few_are, enough_are, fit, rebuilt_is, ready, threshold-is}
 use Rattle.erasure.proofs.restore.Goals as goal
@@ -99,6 +99,7 @@ rebuild-requires c =
       omega (arith, ok.bytes, ok.fits),
       λ j h. fit k servers chosen c.select-c.ensures (omega (arith, is, ok.faults.1)) la ls c.if-c-k.false c.size.result (length a.fragments.now)
           (ok.whole ∙ ap (λ (x : ℕ). length servers * x) (sym f)) j (omega (arith, r.all, h)),
+      subst (λ (x : ℕ). x ≤ fragment_room) (sym c.size.ensures) (size_fits k a.length (omega (arith, is, ok.faults.0)) ok.bytes),
     )
 
 pub returns : goal.returns
