@@ -100,7 +100,7 @@ pub fn fragment(packet: &[u8]) -> &[u8]
     ensures { result.now ≡ fragment_in (decode packet.now) }
 {
     let Some(passed) = read_packet(packet) else {
-        return &packet[..0];
+        return &[];
     };
     let at = crate::sizes::HEAD + crate::sizes::STAMP;
     match passed.head.kind {
@@ -108,6 +108,6 @@ pub fn fragment(packet: &[u8]) -> &[u8]
         protocol::kinds::FILTER_REPLY if passed.number != 0 => {
             share_fragment(rest(packet, at + 1), passed.head.t)
         }
-        _ => &packet[..0],
+        _ => &[],
     }
 }
