@@ -31,7 +31,7 @@ use Rattle.server.specs.Reads.{first_with, FindIs, FindAs}
 use Rattle.server.specs.Answers.{reply_head_def}
 use Rattle.server.specs.Filter.{share_bytes_def, HeldAs}
 use Rattle.server.proofs.Finding.{share_in_def, first-held}
-use Rattle.server.proofs.Replies.{part_none, headed}
+use Rattle.server.proofs.Replies.{headed}
 
 -- ---- what the code makes
 
@@ -121,13 +121,13 @@ module _ (d : List ℕ) (bs : Bytes d) (h : Head) (told : Opened) (a : Stamp) (o
       ∙ ap (λ (y : List ℕ). packet_step (reply_head_def h 10) y [] output) (v ∙ ap (λ (y : Option Share). (held_f s).print
       (record { stamp = a; share = y })) (sym e))
 
-  pub held-nothing : (f : rust.Option ℕ) → FindAs d told z f → f ≡ None → {second : List ℕ} → second ≡ bytes_at d 0 0
-      → {g : Head} {w : Filled} → g ≡ reply_head_def h 10 → w ≡ packet_step g z second output → HeldAs d h told a output w
-  held-nothing f find t {second} v i u ws m l =
+  pub held-nothing : (f : rust.Option ℕ) → FindAs d told z f → f ≡ None → {w : Filled} → w ≡ packet_step (reply_head_def h 10) z [] output
+      → HeldAs d h told a output w
+  held-nothing f find t u ws m l =
       let k : first_with (bytes_at z 0 stamp_size) ws ≡ none = subst (λ (y : rust.Option ℕ). FindIs s d (first_with (bytes_at z 0 stamp_size) ws) y) t
       (find ws m) in
-      replies ws none (sym (found_for ws l) ∙ ap share_in_def k) z second i u
-      (ap (λ (y : List ℕ). z ++ y) (v ∙ part_none d 0) ∙ append-nil z ∙ p ∙ sym (held_none s a))
+      replies ws none (sym (found_for ws l) ∙ ap share_in_def k) z [] refl u
+      (append-nil z ∙ p ∙ sym (held_none s a))
 
   pub held_share : (f : rust.Option ℕ) → FindAs d told z f → {at : ℕ} → f ≡ Some at → {first second : List ℕ} → first ≡ stamp_f.print a ++
       1 ∷ []

@@ -2,7 +2,7 @@
 -- are the memory of the raised server. Assumes nothing.
 use mathlib.Core.Path.{◌≡◌, refl, sym, ap, ◌∙◌}
 use mathlib.Core.Bool.{Bool, true, false, cond}
-use mathlib.Core.List.{List}
+use mathlib.Core.List.{List, []}
 use mathlib.Core.Option.{some}
 use Prim.Native.Nat.{ℕ, ◌+◌, ◌≤◌, ◌<◌}
 use native.Mathlib.Omega.{arith}
@@ -32,7 +32,7 @@ use Rattle.server.specs.declared.memory.Opened.{Opened}
 use Rattle.server.specs.Reads.{OpenedAs}
 use Rattle.server.specs.Answers.{memory_in, reply_head_def, raised_bytes, AnswersFor}
 use Rattle.server.proofs.Standing.{memory-bytes, memory-size_of, memory-fields}
-use Rattle.server.proofs.Replies.{body_of, to-server, replied, unchanged, part_none, alone, headed, sent-ok, sent-bytes}
+use Rattle.server.proofs.Replies.{body_of, to-server, replied, unchanged, sent-ok, sent-bytes}
 
 -- a head read off bytes has the number and the writer that stand there
 module _ (x : List ℕ) where
@@ -118,18 +118,15 @@ module _ {d : List ℕ} {told : Opened} (o : OpenedAs d told) (bs : Bytes d) (x 
 
 -- ---- complete
 
-module _ (d : List ℕ) (bs : Bytes d) (packet : List ℕ) (ps : Bytes packet) (output : List ℕ) (h : Head) where
-  pub complete-answers : {x m out first second : List ℕ} {g : Head} {r : Outcome} → x ≡ drop head_size packet → m ≡ raised_bytes d x
-      → first ≡ bytes_at packet 0 0 → second ≡ bytes_at packet 0 0 → g ≡ reply_head_def h 6 → record { result = r; output = out } ≡ packet_step g first second
-      output
+module _ (d packet : List ℕ) (ps : Bytes packet) (output : List ℕ) (h : Head) where
+  pub complete-answers : {x m out : List ℕ} {r : Outcome} → x ≡ drop head_size packet → m ≡ raised_bytes d x
+      → record { result = r; output = out } ≡ packet_step (reply_head_def h 6) [] [] output
       → AnswersFor 5 d packet output h (record { result = r; memory = m; output = out })
   unfolding body_at act packet_at
-  complete-answers {x} {m} {out} {first} {second} {g} {r} c e f j q w key told o own dec k room =
+  complete-answers {x} {m} {out} {r} c e w key told o own dec k room =
       let y : List ℕ = drop head_size packet in
       let b = body_of h packet 5 k in
       let answer : Served = record { result = r; memory = m; output = out } in
       to-server h own (λ z. (o : OpenedAs d z) → answer ≡ acted_on real d key packet output (some (memory_in o)) (decode packet))
-      (λ n z top o. replied key packet output h o dec room (complete (candidate_at (shelf h.t) y)) b first second
-      (e ∙ ap (raised_bytes d) c ∙ raised-memory o bs y (sent-bytes h packet dec b ps) (sent-ok h packet dec b))
-      (sym (f ∙ part_none packet 0) ∙ alone first (j ∙ part_none packet 0))
-      (headed h 6 output first second q w)) o
+      (λ n z top o. replied key packet output h o dec room (complete (candidate_at (shelf h.t) y)) b [] []
+      (e ∙ ap (raised_bytes d) c ∙ raised-memory o o.bytes y (sent-bytes h packet dec b ps) (sent-ok h packet dec b)) refl w) o

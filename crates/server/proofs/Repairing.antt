@@ -1,8 +1,8 @@
 -- Repair: a valid candidate is raised, any other leaves the memory as it is, and the reply has no body.
 -- By the laws of the raised memory and of replies. Assumes nothing.
-use mathlib.Core.Path.{◌≡◌, sym, ap, ◌∙◌, subst}
+use mathlib.Core.Path.{◌≡◌, refl, sym, ap, ◌∙◌, subst}
 use mathlib.Core.Bool.{Bool, true, false, cond}
-use mathlib.Core.List.{List}
+use mathlib.Core.List.{List, []}
 use mathlib.Core.Option.{some}
 use Prim.Native.Nat.{ℕ}
 use lib.ListN.{drop}
@@ -24,9 +24,9 @@ use Rattle.server.specs.Reads.{OpenedAs}
 use Rattle.server.specs.Answers.{memory_in, reply_head_def, AnswersAs, raised_bytes}
 use Rattle.server.specs.Valid.{ValidAs, RaisedAs}
 use Rattle.server.proofs.Raising.{raised-memory}
-use Rattle.server.proofs.Replies.{body_of, to-server, replied, unchanged, part_none, alone, headed, sent-ok, sent-bytes}
+use Rattle.server.proofs.Replies.{body_of, to-server, replied, unchanged, sent-ok, sent-bytes}
 
-module _ (d : List ℕ) (bs : Bytes d) (key : List ℕ) (told : Opened) (x : List ℕ) {r : Bool} (test : ValidAs d key told x r) where
+module _ (d key : List ℕ) (told : Opened) (x : List ℕ) {r : Bool} (test : ValidAs d key told x r) where
   abbrev t : ℕ
   t = told.t
 
@@ -37,27 +37,23 @@ module _ (d : List ℕ) (bs : Bytes d) (key : List ℕ) (told : Opened) (x : Lis
   raised-valid i p o is =
       let v : Server = server_in (memory_in o) in
       let c = candidate_at (shelf t) x in
-      p ∙ raised-memory o bs x is.0 is.1 ∙ ap (λ (g : Bool). encode_memory (memory_of t b (cond g (raise c v) v))) (sym i ∙ test o is)
+      p ∙ raised-memory o o.bytes x is.0 is.1 ∙ ap (λ (g : Bool). encode_memory (memory_of t b (cond g (raise c v) v))) (sym i ∙ test o is)
 
   pub left_invalid : r ≡ false → RaisedAs d key told x d
   left_invalid i o is =
       let v : Server = server_in (memory_in o) in
       let c = candidate_at (shelf t) x in
-      unchanged o bs ∙ ap (λ (g : Bool). encode_memory (memory_of t b (cond g (raise c v) v))) (sym i ∙ test o is)
+      unchanged o o.bytes ∙ ap (λ (g : Bool). encode_memory (memory_of t b (cond g (raise c v) v))) (sym i ∙ test o is)
 
 module _ (d key packet : List ℕ) (ps : Bytes packet) (output : List ℕ) (h : Head) (told : Opened) where
-  pub repair-answers : {x m out first second : List ℕ} {g : Head} {r : Outcome} → x ≡ drop head_size packet → RaisedAs d key told x m
-      → first ≡ bytes_at packet 0 0 → second ≡ bytes_at packet 0 0 → g ≡ reply_head_def h 12 → record { result = r; output = out }
-      ≡ packet_step g first second
-      output
+  pub repair-answers : {x m out : List ℕ} {r : Outcome} → x ≡ drop head_size packet → RaisedAs d key told x m
+      → record { result = r; output = out } ≡ packet_step (reply_head_def h 12) [] [] output
       → AnswersAs 11 d key packet output h told (record { result = r; memory = m; output = out })
   unfolding body_at act packet_at
-  repair-answers {x} {m} {out} {first} {second} {g} {r} c u f j q w o own dec k room =
+  repair-answers {x} {m} {out} {r} c u w o own dec k room =
       let y : List ℕ = drop head_size packet in
       let b = body_of h packet 11 k in
       let answer : Served = record { result = r; memory = m; output = out } in
       to-server h own (λ z. RaisedAs d key z y m → (o : OpenedAs d z) → answer ≡ acted_on real d key packet output (some (memory_in o)) (decode packet))
-      (λ n e top u o. replied key packet output h o dec room (repair (candidate_at (shelf h.t) y)) b first second
-      (u o (sent-bytes h packet dec b ps, sent-ok h packet dec b))
-      (sym (f ∙ part_none packet 0) ∙ alone first (j ∙ part_none packet 0))
-      (headed h 12 output first second q w)) (subst (λ (z : List ℕ). RaisedAs d key told z m) c u) o
+      (λ n e top u o. replied key packet output h o dec room (repair (candidate_at (shelf h.t) y)) b [] []
+      (u o (sent-bytes h packet dec b ps, sent-ok h packet dec b)) refl w) (subst (λ (z : List ℕ). RaisedAs d key told z m) c u) o

@@ -121,14 +121,9 @@ pub unchanged : {d : List ℕ} {told : Opened} (o : OpenedAs d told) → Bytes d
 unfolding server_in
 unchanged o bs = sym (memory-bytes o bs)
 
--- no bytes of a run
-pub part_none : (d : List ℕ) (at : ℕ) → bytes_at d at 0 ≡ []
-unfolding bytes_at
-part_none d at = refl
-
 -- a run with nothing after it
-pub alone : (first : List ℕ) {second : List ℕ} → second ≡ [] → first ≡ first ++ second
-alone first n = sym (append-nil first) ∙ ap (λ (y : List ℕ). first ++ y) (sym n)
+pub alone : (first : List ℕ) → first ≡ first ++ []
+alone first = sym (append-nil first)
 
 -- the head made is the reply's
 pub headed : (h : Head) (k : ℕ) (output first second : List ℕ) {g : Head} {w : Filled} → g ≡ reply_head_def h k → w ≡ packet_step g first second output
@@ -137,26 +132,22 @@ headed h k output first second q w = w ∙ ap (λ (y : Head). packet_step y firs
 
 -- ---- clock and collect
 
-module _ (d : List ℕ) (bs : Bytes d) (output : List ℕ) (h : Head) {first second : List ℕ} (nothing : second ≡ bytes_at d latest_place 0) {g : Head}
-    {r : Outcome} {out : List ℕ} where
-  pub clock-answers : first ≡ bytes_at d latest_place stamp_size → g ≡ reply_head_def h 2 → record { result = r; output = out } ≡ packet_step g first second
-      output
+module _ (d : List ℕ) (output : List ℕ) (h : Head) {body : List ℕ} {r : Outcome} {out : List ℕ} where
+  pub clock-answers : body ≡ bytes_at d latest_place stamp_size → record { result = r; output = out } ≡ packet_step (reply_head_def h 2) body [] output
       → AnswersAll 1 d output h (record { result = r; memory = d; output = out })
   unfolding body_at act server_in any_stamp_f or_blank candidate_at
-  clock-answers f q w packet key told o own dec k room =
+  clock-answers f w packet key told o own dec k room =
       let answer : Served = record { result = r; memory = d; output = out } in
       to-server h own (λ z. (o : OpenedAs d z) → answer ≡ acted_on real d key packet output (some (memory_in o)) (decode packet))
-      (λ n e top o. replied key packet output h o dec room clock (body_of h packet 1 k) first second (unchanged o bs)
-      (sym (f ∙ latest-stamp o bs) ∙ alone first (nothing ∙ part_none d latest_place))
-      (headed h 2 output first second q w)) o
+      (λ n e top o. replied key packet output h o dec room clock (body_of h packet 1 k) body [] (unchanged o o.bytes)
+      (sym (f ∙ latest-stamp o o.bytes) ∙ alone body) w) o
 
-  pub collect-answers : {z : ℕ} → z ≡ candidate_size_def (shelf h.t) → first ≡ bytes_at d latest_place z → g ≡ reply_head_def h 8
-      → record { result = r; output = out } ≡ packet_step g first second output → AnswersAll 7 d output h
-      (record { result = r; memory = d; output = out })
+  pub collect-answers : {z : ℕ} → z ≡ candidate_size_def (shelf h.t) → body ≡ bytes_at d latest_place z
+      → record { result = r; output = out } ≡ packet_step (reply_head_def h 8) body [] output
+      → AnswersAll 7 d output h (record { result = r; memory = d; output = out })
   unfolding body_at act server_in
-  collect-answers z f q w packet key told o own dec k room =
+  collect-answers z f w packet key told o own dec k room =
       let answer : Served = record { result = r; memory = d; output = out } in
       to-server h own (λ z. (o : OpenedAs d z) → answer ≡ acted_on real d key packet output (some (memory_in o)) (decode packet))
-      (λ n e top o. replied key packet output h o dec room collect (body_of h packet 7 k) first second (unchanged o bs)
-      (sym (f ∙ ap (bytes_at d latest_place) z ∙ latest-part o bs) ∙ alone first (nothing ∙ part_none d latest_place))
-      (headed h 8 output first second q w)) o
+      (λ n e top o. replied key packet output h o dec room collect (body_of h packet 7 k) body [] (unchanged o o.bytes)
+      (sym (f ∙ ap (bytes_at d latest_place) z ∙ latest-part o o.bytes) ∙ alone body) w) o

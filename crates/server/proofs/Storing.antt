@@ -37,7 +37,7 @@ use Rattle.server.specs.Reads.{first_with, FindAs, OpenedAs}
 use Rattle.server.specs.Answers.{memory_in, ToServer, reply_head_def, kept_bytes}
 use Rattle.server.proofs.Finding.{share_in_def, first-held}
 use Rattle.server.proofs.Keeping.{kept_memory}
-use Rattle.server.proofs.Replies.{body_of, told_to, to-server, replied_as, unchanged, part_none, headed, sent-ok, sent-bytes}
+use Rattle.server.proofs.Replies.{body_of, told_to, to-server, replied_as, unchanged, sent-ok, sent-bytes}
 use Rattle.server.proofs.Standing.{server-ok}
 
 -- a write's bytes begin with its stamp's
@@ -45,13 +45,6 @@ write-stamp : (s : Config) (w : Write) → (write_f s).Ok w → take stamp_size 
 unfolding write_f via seq
 write-stamp s w ok =
     take_at (stamp_f.print w.stamp) ((share_f s).print w.share) stamp_size (stamp-length w.stamp (unfold stamp_f via seq run in ok.0.1.1))
-
--- ---- what the code makes
-
-pub code-made : (h : Head) (c : ℕ) (output : List ℕ) {g : Head} {second : List ℕ} {w : Filled} → g ≡ reply_head_def h 4 → second ≡ bytes_at (c ∷ []) 0 0
-    → w ≡ packet_step g (c ∷ []) second output → w ≡ packet_step (reply_head_def h 4) (c ∷ []) [] output
-code-made h c output {g} {second} q p w =
-    headed h 4 output (c ∷ []) second q w ∙ ap (λ (y : List ℕ). packet_step (reply_head_def h 4) (c ∷ []) y output) (p ∙ part_none (c ∷ []) 0)
 
 -- ---- the answers
 

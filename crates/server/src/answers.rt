@@ -1,6 +1,7 @@
 // The answers to requests, one function for each kind.
-ghost use Rattle.std.specs.Prelude.{◌≡◌};
+ghost use Rattle.std.specs.Prelude.{◌≡◌, []};
 ghost use Rattle.cluster.specs.Refusals.{outcome_told};
+ghost use Rattle.wire.specs.Make.{packet_step};
 ghost use Rattle.server.specs.Answers.{reply_head_def, AnswersFor, AnswersAll, raised_bytes};
 
 use crate::memory::LATEST;
@@ -20,17 +21,25 @@ pub(crate) fn reply_head(head: protocol::Head, kind: u8) -> protocol::Head
     }
 }
 
+// A reply of a kind, whose body is one run of bytes.
+pub(crate) fn reply(
+    head: protocol::Head,
+    kind: u8,
+    body: &[u8],
+    out: &mut [u8],
+) -> Result<usize, Refusal>
+    ensures { record { result = outcome_told result; output = out.new } ≡ packet_step (reply_head_def head kind) body.now [] out.old }
+{
+    wire::make::make_packet(reply_head(head, kind), body, &[], out)
+}
+
 // Clock: the latest candidate's stamp.
 pub(crate) fn clock(memory: &[u8], head: protocol::Head, out: &mut [u8]) -> Result<usize, Refusal>
     ensures { AnswersAll 1 memory.now out.old head
         (record { result = outcome_told result; memory = memory.now; output = out.new }) }
 {
-    wire::make::make_packet(
-        reply_head(head, protocol::kinds::CLOCK_REPLY),
-        part(memory, LATEST, wire::sizes::STAMP),
-        part(memory, LATEST, 0),
-        out,
-    )
+    let stamp = part(memory, LATEST, wire::sizes::STAMP);
+    reply(head, protocol::kinds::CLOCK_REPLY, stamp, out)
 }
 
 // Collect: the latest candidate.
@@ -38,12 +47,8 @@ pub(crate) fn collect(memory: &[u8], head: protocol::Head, out: &mut [u8]) -> Re
     ensures { AnswersAll 7 memory.now out.old head
         (record { result = outcome_told result; memory = memory.now; output = out.new }) }
 {
-    wire::make::make_packet(
-        reply_head(head, protocol::kinds::COLLECT_REPLY),
-        part(memory, LATEST, wire::sizes::candidate_size(head.t)),
-        part(memory, LATEST, 0),
-        out,
-    )
+    let candidate = part(memory, LATEST, wire::sizes::candidate_size(head.t));
+    reply(head, protocol::kinds::COLLECT_REPLY, candidate, out)
 }
 
 // A candidate becomes the latest if its stamp is higher.
@@ -68,10 +73,5 @@ pub(crate) fn complete(
         (record { result = outcome_told result; memory = memory.new; output = out.new }) }
 {
     raise(memory, wire::bytes::rest(packet, wire::sizes::HEAD));
-    wire::make::make_packet(
-        reply_head(head, protocol::kinds::COMPLETE_REPLY),
-        part(packet, 0, 0),
-        part(packet, 0, 0),
-        out,
-    )
+    reply(head, protocol::kinds::COMPLETE_REPLY, &[], out)
 }

@@ -101,17 +101,11 @@ fn reply_held(
 {
     let nothing = held_head(stamp, 0);
     let Some(at) = find(memory, opened, &nothing) else {
-        return wire::make::make_packet(
-            crate::answers::reply_head(head, protocol::kinds::FILTER_REPLY),
-            &nothing,
-            part(memory, 0, 0),
-            out,
-        );
+        return crate::answers::reply(head, protocol::kinds::FILTER_REPLY, &nothing, out);
     };
-    let bytes = held_head(stamp, 1);
     wire::make::make_packet(
         crate::answers::reply_head(head, protocol::kinds::FILTER_REPLY),
-        &bytes,
+        &held_head(stamp, 1),
         share_bytes(memory, at, opened.t),
         out,
     )

@@ -6,7 +6,7 @@ ghost use Rattle.server.specs.Valid.{RaisedAs};
 
 use crate::memory::Opened;
 use cluster::Refusal;
-use wire::bytes::{part, rest};
+use wire::bytes::rest;
 
 // A valid candidate is raised.
 fn raise_valid(memory: &mut [u8], key: [u8; cluster::KEY], opened: Opened, candidate: &[u8])
@@ -31,10 +31,5 @@ pub(crate) fn repair(
         (record { result = outcome_told result; memory = memory.new; output = out.new }) }
 {
     raise_valid(memory, key, opened, rest(packet, wire::sizes::HEAD));
-    wire::make::make_packet(
-        crate::answers::reply_head(head, protocol::kinds::REPAIR_REPLY),
-        part(packet, 0, 0),
-        part(packet, 0, 0),
-        out,
-    )
+    crate::answers::reply(head, protocol::kinds::REPAIR_REPLY, &[], out)
 }

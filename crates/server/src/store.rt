@@ -7,19 +7,13 @@ ghost use Rattle.server.specs.Answers.{reply_head_def, AnswersOf, kept_bytes};
 
 use crate::memory::{COUNT, Opened, find};
 use cluster::Refusal;
-use wire::bytes::{part, rest};
+use wire::bytes::rest;
 
 // The reply: 0, 10 or 11.
 fn store_reply(head: protocol::Head, code: u8, out: &mut [u8]) -> Result<usize, Refusal>
     ensures { record { result = outcome_told result; output = out.new } ≡ packet_step (reply_head_def head 4) (code ∷ []) [] out.old }
 {
-    let bytes = [code];
-    wire::make::make_packet(
-        crate::answers::reply_head(head, protocol::kinds::STORE_REPLY),
-        &bytes,
-        part(&bytes, 0, 0),
-        out,
-    )
+    crate::answers::reply(head, protocol::kinds::STORE_REPLY, &[code], out)
 }
 
 // One more stored write, after the others.

@@ -5,10 +5,10 @@ use Rattle.server.proofs.filter.reply_held.Goals as goal
 pub returns-in_default : goal.returns-in_default
 returns-in_default c =
     held-nothing c.args.memory.now (λ i. (c.type_inv.memory i).fits) c.args.head c.args.opened c.args.stamp c.args.out.now
-    c.held_head-nothing.ensures c.find.result c.find.ensures c.in_default.is c.part.ensures c.reply_head.ensures c.make_packet.ensures
+    c.held_head-nothing.ensures c.find.result c.find.ensures c.in_default.is c.reply.ensures
 
 pub returns : goal.returns
 returns c =
     held_share c.args.memory.now (λ i. (c.type_inv.memory i).fits) c.args.head c.args.opened c.args.stamp c.args.out.now
-    c.held_head-nothing.ensures c.find.result c.find.ensures c.in-Some.is c.held_head-bytes.ensures c.share_bytes.ensures
-    c.reply_head-2.ensures c.make_packet-2.ensures
+    c.held_head-nothing.ensures c.find.result c.find.ensures c.in-Some.is c.held_head.ensures c.share_bytes.ensures
+    c.reply_head.ensures c.make_packet.ensures
