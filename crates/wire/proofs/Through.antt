@@ -20,7 +20,7 @@ use Rattle.protocol.specs.Values.{Candidate, Share, label_of, stamp_size, nonce_
 use Rattle.protocol.specs.Packet.{stamp_f, any_stamp_f, share_f, write_f, candidate_f, any_candidate_f}
 use Rattle.protocol.specs.View.{stamp_at_def, candidate_at, share_at, share_of_size}
 use Rattle.format.specs.Reading.{bytes_at, Leaves, Stops, number4_at}
-use Rattle.format.proofs.Leaves.{leaves-seq, leaves-via, stops-via, stops_first, stops_second, leaves_some, leaves-blank, stops_short}
+use Rattle.format.proofs.Leaves.{leaves-seq, leaves-via, stops-via, stops_first, stops_second, leaves_some, leaves-blank}
 use Rattle.wire.specs.Places.{length_at, share_size_def, write_at_def, no_label}
 use Rattle.wire.specs.Reads.{TookAt, TookLabelled, Past, byte_l, number2_l, number4_l, stamp_l, any_stamp_l, share_l, write_l, candidate_l, any_candidate_l}
 use Rattle.wire.proofs.Leaf.{ends, number4-numbered, run_in, run_past, run-few}
@@ -59,10 +59,6 @@ module _ {s : List ℕ} {at : ℕ} where
   pub past-stamp : length s ≤ at → Stops stamp_f s at
   unfolding stamp_f
   past-stamp h = stops-via _ _ _ (stops_first _ _ (ends (number4-numbered 1 top_number) _ _ (simp length-drop (omega arith))))
-
-  pub past-any-stamp : length s ≤ at → Stops any_stamp_f s at
-  unfolding any_stamp_f
-  past-any-stamp h = stops_short _ _ _ (past-stamp h) (omega arith)
 
   pub blank-stamp-took : {e : ℕ} → Stops stamp_f s at → at + stamp_size ≤ length s → zeros (take stamp_size (drop at s)) ≡ true → e ≡ at + stamp_size
       → TookLabelled any_stamp_l s at no_label 0 e
@@ -214,10 +210,6 @@ module _ (c : Config) {s : List ℕ} {at : ℕ} where
   any-candidate-took x =
       let t = x.took in
       record { took = record { leaves = leaves_some _ _ _ t.leaves; number = t.number; place = t.place }; label = x.label }
-
-  pub past-any-candidate : length s ≤ at → Stops (any_candidate_f c) s at
-  unfolding any_candidate_f candidate_f
-  past-any-candidate h = stops_short _ _ _ (stops-via _ _ _ (stops_first _ _ (past-stamp h))) (omega arith)
 
   pub blank-candidate-took : {e : ℕ} → Stops (candidate_f c) s at → at + candidate_size_def c ≤ length s → zeros (take (candidate_size_def c) (drop at s)) ≡ true
       → e ≡ at + candidate_size_def c → TookLabelled (any_candidate_l c) s at no_label 0 e

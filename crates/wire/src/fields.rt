@@ -1,5 +1,5 @@
 // Readers of single fields. Each answers a number and the cursor past the field, or None: there the bytes break the layout.
-ghost use Rattle.std.specs.Prelude.{◌≤◌, length};
+ghost use Rattle.std.specs.Prelude.{◌<◌, ◌≤◌, length};
 ghost use Rattle.wire.specs.Reads.{FieldAs, RangedAs, byte_l, number2_l, number4_l, code_l, RunAs, ZeroAs};
 
 use crate::bytes::{all_zero, number2, number4, rest};
@@ -63,14 +63,17 @@ pub(crate) fn run_field(s: &[u8], c: Cursor, n: usize) -> Option<Cursor>
 
 // n bytes, all zero.
 pub(crate) fn zero_run(s: &[u8], c: Cursor, n: usize) -> Option<Cursor>
-    requires { c.at ≤ length s.now }
+    requires { 0 < n }
     ensures { ZeroAs n s.now c.at result }
 {
-    let next = run_field(s, c, n)?;
-    if !all_zero(&s[c.at..next.at]) {
+    if s.len().saturating_sub(c.at) < n {
         return None;
     }
-    Some(next)
+    let end = c.at + n;
+    if !all_zero(&s[c.at..end]) {
+        return None;
+    }
+    Some(Cursor { at: end })
 }
 
 // The answer to a store: 0, 10 or 11.

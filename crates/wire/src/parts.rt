@@ -40,9 +40,6 @@ pub fn stamp_field(s: &[u8], c: Cursor) -> Option<(protocol::Label, u32, Cursor)
 pub(crate) fn any_stamp_field(s: &[u8], c: Cursor) -> Option<(protocol::Label, u32, Cursor)>
     ensures { LabelledAs any_stamp_l s.now c.at result }
 {
-    if s.len() < c.at {
-        return None;
-    }
     if let Some(stamp) = stamp_field(s, c) {
         return Some(stamp);
     }
@@ -84,9 +81,6 @@ pub(crate) fn candidate_field(s: &[u8], c: Cursor, t: u8) -> Option<(protocol::L
 pub fn any_candidate_field(s: &[u8], c: Cursor, t: u8) -> Option<(protocol::Label, u32, Cursor)>
     ensures { LabelledAs (any_candidate_l (shelf t)) s.now c.at result }
 {
-    if s.len() < c.at {
-        return None;
-    }
     if let Some(candidate) = candidate_field(s, c, t) {
         return Some(candidate);
     }

@@ -1,13 +1,9 @@
-use Rattle.std.proofs.Common.{arith}
 use mathlib.Core.Logic.{⊎_elim}
 use Rattle.cluster.specs.Config.{shelf}
 use Rattle.format.proofs.Leaves.{stops_short, stops-blank}
 use Rattle.protocol.specs.Packet.{any_candidate_f}
-use Rattle.wire.proofs.Through.{past-any-candidate, any-candidate-took, blank-candidate-took}
+use Rattle.wire.proofs.Through.{any-candidate-took, blank-candidate-took}
 use Rattle.wire.proofs.parts.any_candidate_field.Goals as goal
-
-pub returns-then-s-c : goal.returns-then-s-c
-returns-then-s-c c = past-any-candidate (shelf c.args.t) (omega arith)
 
 pub returns-in-Some : goal.returns-in-Some
 returns-in-Some c = any-candidate-took (shelf c.args.t) c.in-Some.ensures

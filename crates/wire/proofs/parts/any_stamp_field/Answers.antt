@@ -1,12 +1,8 @@
-use Rattle.std.proofs.Common.{arith}
 use mathlib.Core.Logic.{⊎_elim}
 use Rattle.format.proofs.Leaves.{stops_short, stops-blank}
 use Rattle.protocol.specs.Packet.{any_stamp_f}
-use Rattle.wire.proofs.Through.{past-any-stamp, any-stamp-took, blank-stamp-took}
+use Rattle.wire.proofs.Through.{any-stamp-took, blank-stamp-took}
 use Rattle.wire.proofs.parts.any_stamp_field.Goals as goal
-
-pub returns-then-s-c : goal.returns-then-s-c
-returns-then-s-c c = past-any-stamp (omega arith)
 
 pub returns-in-Some : goal.returns-in-Some
 returns-in-Some c = any-stamp-took c.in-Some.ensures
