@@ -11,7 +11,7 @@ use borrow.Author.Tests.{ltb-false, leb-false}
 use Rattle.cluster.specs.Config.{shelf}
 use Rattle.cluster.specs.declared.Refusal.{Refusal}
 use Rattle.cluster.specs.Refusals.{refuse, first_of, refusal_number}
-use Rattle.decide.proofs.Arguments.{refusal_some}
+use Rattle.erasure.proofs.Refused.{refused-number}
 use Rattle.cluster.specs.Ranges.{top_number, content_room}
 use Rattle.cluster.proofs.Tests.{and_both, passes}
 use Rattle.protocol.specs.declared.Call.{Call}
@@ -64,7 +64,7 @@ module _ (t client : ℕ) (c : Call) (reply : List ℕ) (h : Head) (y : Ready t 
         let w = and_both (ends (shelf t) c h.server) (leb top_number top) f in
         rw e (sym (clock_too-high t client writers (key_of keys) c kept output reply h y clock w.0 w.1))
     refused_as false true f g why e = rw e (sym (clock_short t client writers (key_of keys) c kept output reply h y clock f g))
-    refused_as false false f g why e = absurd (refusal_some why e)
+    refused_as false false f g why e = absurd (refused-number why e)
 
     pub clock-refused : (why : Refusal) (room high : ℕ) → refusal_number why ≡ first_of (refuse 14 (ends (shelf t) c h.server && leb top_number high)
         ∷ refuse 15 (ltb room content_room) ∷ [])

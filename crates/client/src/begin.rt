@@ -11,7 +11,7 @@ ghost use Rattle.client.specs.Core.{core_write, core_read};
 use crate::{Party, kept, refusals, rounds};
 use cluster::Refusal;
 
-// What giving up answers, and the call after it.
+// What giving up answers, and the call after it. Not one generic type with answers::Answered: no code is the same for both, and it would be no plainer.
 #[derive(Clone, Copy)]
 pub struct Stopped {
     pub answer: protocol::Aborted,
@@ -85,8 +85,8 @@ fn clear_slots(kept: &mut [u8])
     requires { length kept.old ≡ kept_size }
     ensures { kept.new ≡ put kept.old candidates_place (replicate (candidate_slot * most_servers) 0) }
 {
-    let zeros = [0u8; wire::kept::CANDIDATE_SLOT * cluster::MOST_SERVERS];
-    kept::write_at(kept, wire::kept::CANDIDATES, &zeros);
+    let end = wire::kept::CANDIDATES + wire::kept::CANDIDATE_SLOT * cluster::MOST_SERVERS;
+    kept[wire::kept::CANDIDATES..end].fill(0);
 }
 
 // Lines 137 to 140.

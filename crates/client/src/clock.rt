@@ -86,7 +86,7 @@ pub(crate) fn take_clock(
     let noted = answers::note_reply(
         protocol::Call { high, ..call },
         party.t,
-        passed.head.server as usize,
+        usize::from(passed.head.server),
     );
     let ends = rounds::is_full(party.t, noted.tally);
     clock_refusal(ends, high, room)?;

@@ -91,7 +91,7 @@ fn label_in(kept: &[u8], t: usize, i: usize) -> protocol::Label
     requires { i < most_servers }
     ensures { result ≡ label_of (candidates_in (shelf t) kept.now (suc i)).stamp }
 {
-    kept::label(wire::bytes::part(
+    wire::values::label_at(wire::bytes::part(
         kept,
         wire::kept::CANDIDATES + wire::kept::CANDIDATE_SLOT * i,
         wire::kept::CANDIDATE_SLOT,
@@ -153,7 +153,7 @@ pub(crate) fn take_filter(
         → TakesAs party.t party.client writers keys call kept.old reply.now out.old (Ok result) kept.new
         out.new }
 {
-    let server = head.server as usize;
+    let server = usize::from(head.server);
     put_reply(kept, server, wire::bytes::rest(reply, wire::sizes::HEAD));
     let noted = answers::note_reply(call, party.t, server);
     if rounds::is_full(party.t, noted.tally) {

@@ -3,10 +3,10 @@ ghost use Rattle.std.specs.Prelude.{◌≡◌, cond, ◌≤◌, ◌+◌, leb, le
 ghost use Rattle.cluster.specs.Config.{shelf};
 ghost use Rattle.cluster.specs.Ranges.{top_length};
 ghost use Rattle.protocol.specs.Values.{label_of};
-ghost use Rattle.protocol.specs.View.{kept_size, stamp_at_def, chosen_of, content_of, nonce_of_def};
+ghost use Rattle.protocol.specs.View.{kept_size, chosen_of, content_of, nonce_of_def};
 ghost use Rattle.format.specs.Reading.{put};
 
-// The bytes at a place where there is room for them.
+// The bytes at a place where there is room for them. It stays beside wire's put, which tells its callers more than the bytes: they are no plainer by it.
 pub(crate) fn write_at(kept: &mut [u8], at: usize, bytes: &[u8])
     requires { at + length bytes.now ≤ length kept.old }
     ensures { kept.new ≡ put kept.old at bytes.now }
@@ -14,18 +14,11 @@ pub(crate) fn write_at(kept: &mut [u8], at: usize, bytes: &[u8])
     let _ = wire::make::put(kept, at, bytes);
 }
 
-// Number and writer of the stamp at the start of a candidate's slot.
-pub(crate) fn label(slot: &[u8]) -> protocol::Label
-    ensures { result ≡ label_of (stamp_at_def slot.now) }
-{
-    wire::values::label_at(slot)
-}
-
-// Those of the stamp of the write or of repair.
+// Number and writer of the stamp of the write or of repair.
 pub(crate) fn chosen_label(kept: &[u8], t: usize) -> protocol::Label
     ensures { result ≡ label_of (chosen_of (shelf t) kept.now).stamp }
 {
-    label(wire::bytes::part(kept, wire::kept::CHOSEN, wire::kept::CANDIDATE_SLOT))
+    wire::values::label_at(wire::bytes::part(kept, wire::kept::CHOSEN, wire::kept::CANDIDATE_SLOT))
 }
 
 // The bytes of the content: no more than a content has.

@@ -31,13 +31,7 @@ fn count(marks: [u8; cluster::MOST_SERVERS], n: usize) -> u8
     requires { n ≤ most_servers }
     ensures { result ≡ count_to n (marked marks) }
 {
-    let mut c = 0;
-    for mark in &marks[..n] {
-        if *mark != 0 {
-            c += 1;
-        }
-    }
-    c
+    marks[..n].iter().filter(|mark| **mark != 0).count() as u8
 }
 
 // The count is that of the marks.

@@ -7,15 +7,14 @@ use lib.Dec.{T, ltb, eqb}
 use lib.ListN.{length}
 use borrow.Author.Tests.{eqb-true, ltb-false, not-false}
 use Rattle.std.specs.Prelude.{Result, Ok, Err, IsOk}
-use mathlib.Core.Logic.{◌≢◌}
 use Rattle.cluster.specs.declared.Refusal.{Refusal}
-use Rattle.cluster.specs.declared.Refusal.TheVariants as refusals
-use Rattle.cluster.specs.Refusals.{refusal_number, number_told, outcome_told}
+use Rattle.cluster.specs.Refusals.{number_told, outcome_told}
 use Rattle.protocol.specs.View.{kept_size}
 use Rattle.decide.specs.Listing.{usable}
 use Rattle.decide.specs.Decided.{decide_refusal_def}
 use Rattle.decide.specs.Steps.{Usable, UsableAs}
 use Rattle.cluster.specs.Ranges.{within, top_faults, most_servers, content_room}
+use Rattle.erasure.proofs.Refused.{refused-number}
 use Rattle.cluster.proofs.Tests.{inside, passes}
 use Rattle.cluster.specs.Config.{shelf}
 use native.Mathlib.Omega.{arith}
@@ -24,30 +23,10 @@ use native.Mathlib.Omega.{arith}
 pub one_answer : {A : Type 0} {b : Bool} → b ≡ true → b ≡ false → A
 one_answer e k = absurd (subst T (sym e ∙ k) tt)
 
--- no refusal has the number 0
-pub refusal_some : (r : Refusal) → refusal_number r ≢ 0
-refusal_some refusals.MemorySize e = absurd (omega arith)
-refusal_some refusals.Memory e = absurd (omega arith)
-refusal_some refusals.Faults e = absurd (omega arith)
-refusal_some refusals.Server e = absurd (omega arith)
-refusal_some refusals.Client e = absurd (omega arith)
-refusal_some refusals.Length e = absurd (omega arith)
-refusal_some refusals.Layout e = absurd (omega arith)
-refusal_some refusals.Addressee e = absurd (omega arith)
-refusal_some refusals.Sender e = absurd (omega arith)
-refusal_some refusals.Reply e = absurd (omega arith)
-refusal_some refusals.Hand e = absurd (omega arith)
-refusal_some refusals.Numbers e = absurd (omega arith)
-refusal_some refusals.Room e = absurd (omega arith)
-refusal_some refusals.Fragments e = absurd (omega arith)
-refusal_some refusals.Line e = absurd (omega arith)
-refusal_some refusals.Stores e = absurd (omega arith)
-refusal_some refusals.WrongSize e = absurd (omega arith)
-
 -- what is told by 0 is no refusal
 pub told-ok : {A : Type 0} (r : Result A Refusal) → number_told r ≡ 0 → IsOk r
 told-ok (Ok a) e = refl
-told-ok (Err why) e = absurd (refusal_some why e)
+told-ok (Err why) e = absurd (refused-number why e)
 
 pub outcome-number : (r : Result ℕ Refusal) → (outcome_told r).number ≡ number_told r
 outcome-number (Ok a) = refl

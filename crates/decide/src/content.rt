@@ -8,7 +8,7 @@ ghost use Rattle.protocol.specs.View.{reply_slot_of};
 ghost use Rattle.decide.specs.Steps.{Usable, Full, Rising, FragmentsAs, content_of};
 
 use crate::FRAGMENTS;
-use crate::sizes::{copy, fragment_size, size_of, threshold};
+use crate::sizes::{fragment_size, size_of, threshold};
 use wire::kept::{REPLIES, REPLY_SLOT};
 use wire::sizes::HELD_LENGTH;
 
@@ -27,7 +27,7 @@ fn fragments_of(
     let mut out = [0u8; FRAGMENTS];
     for p in 0..k {
         let at = REPLIES + REPLY_SLOT * (servers[p] - 1) + HELD_LENGTH;
-        copy(&mut out, p * f, &kept[at..at + f]);
+        wire::make::put(&mut out, p * f, &kept[at..at + f]);
     }
     out
 }

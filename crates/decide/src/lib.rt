@@ -51,6 +51,7 @@ pub fn count_listed(kept: &[u8], t: usize) -> u8
         return 0;
     }
     let mut n = 0;
+    // no filter with count: its closure may be called for any slot, and entry is asked for slots alone that there are
     for i in 0..servers(t) {
         if entry(kept, t, i) {
             n += 1;

@@ -26,6 +26,7 @@ fn stays(kept: &[u8], replied: Replied, key: u64) -> bool
 {
     let s = servers(replied.t);
     let mut n = 0;
+    // no filter with count: its closure may be called for any slot, and the marks are read for slots alone that there are
     for j in 0..s {
         if is_lower(kept, replied.marks[j], j, key) {
             n += 1;

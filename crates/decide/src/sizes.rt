@@ -5,7 +5,6 @@ ghost use Rattle.cluster.specs.Ranges.{top_length, top_faults};
 ghost use Rattle.erasure.specs.Fragments.{fragment_size_def};
 ghost use Rattle.format.specs.Format.{value2};
 ghost use Rattle.protocol.specs.Values.{stamp_size};
-ghost use Rattle.format.specs.Reading.{put};
 ghost use Rattle.protocol.specs.View.{reply_slot};
 ghost use Rattle.decide.specs.Steps.{rank_at, DigestsAt, TagsAt};
 
@@ -64,12 +63,4 @@ pub(crate) fn rank_at(kept: &[u8], at: usize) -> u64
     ensures { result ≡ rank_at kept.now at }
 {
     wire::values::rank_at(wire::bytes::rest(kept, at))
-}
-
-// Copies src to a place of out.
-pub(crate) fn copy(out: &mut [u8], to: usize, src: &[u8])
-    requires { to + length src.now ≤ length out.old }
-    ensures { out.new ≡ put out.old to src.now }
-{
-    let _ = wire::make::put(out, to, src);
 }

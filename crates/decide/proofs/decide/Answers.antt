@@ -9,7 +9,8 @@ use Rattle.decide.specs.Decided.{Decided, decision_answer}
 use Rattle.decide.specs.declared.Decision.TheVariants as decisions
 use Rattle.decide.specs.Steps.{top_at, first_proven, Hit}
 use Rattle.decide.proofs.Outcomes.{decided-refused, decided-blank, decided_none, hit-small, hit_full, hit_rises, decided-found}
-use Rattle.decide.proofs.Arguments.{allowed, refusal_some}
+use Rattle.decide.proofs.Arguments.{allowed}
+use Rattle.erasure.proofs.Refused.{refused-number}
 use Rattle.decide.proofs.decide.Goals as goal
 
 -- the answer and the output, out of what is decided
@@ -26,7 +27,7 @@ returns-in_err-decide_refusal c =
     let a = c.args in
     let p = err_from_is_err_and c.from_residual.result c.from_residual.ensures.1 in
     rw (p.1, p.2) (told (decided-refused a.t a.marks a.kept.now a.out.now (refusal_number c.in_err-decide_refusal.field-0.0)
-    c.in_err-decide_refusal.ensures (refusal_some c.in_err-decide_refusal.field-0.0)))
+    c.in_err-decide_refusal.ensures (refused-number c.in_err-decide_refusal.field-0.0)))
 
 pub overflow_add-result : goal.overflow_add-result
 overflow_add-result c =

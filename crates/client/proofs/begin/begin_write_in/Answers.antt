@@ -1,7 +1,7 @@
 -- Kept bytes of another length, a refusal, or a call that begins. Nothing is assumed.
 use Rattle.std.proofs.Common.{sym, arith, rules}
 use Rattle.std.proofs.lemmas.Result.{err_from_is_err_and}
-use Rattle.decide.proofs.Arguments.{refusal_some}
+use Rattle.erasure.proofs.Refused.{refused-number}
 use Rattle.client.proofs.Begins.{write_short, write-refused, write-begins, write-fits}
 use Rattle.client.proofs.begin.begin_write_in.Goals as goal
 
@@ -14,7 +14,7 @@ returns-in_err-write_refusal c =
     let a = c.args in
     let p = err_from_is_err_and c.from_residual.result c.from_residual.ensures.1 in
     rw (p.1, p.2) (sym (write-refused a.party.t a.party.client a.call a.kept.now a.content.now a.nonce.now (search rules) c.if-kept-ne-KEPT.false _
-    c.in_err-write_refusal.ensures (refusal_some c.in_err-write_refusal.field-0.0)))
+    c.in_err-write_refusal.ensures (refused-number c.in_err-write_refusal.field-0.0)))
 
 pub keep_write-requires : goal.keep_write-requires
 keep_write-requires c =

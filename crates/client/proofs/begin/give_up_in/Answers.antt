@@ -8,7 +8,7 @@ use Rattle.protocol.specs.Client.{abort_refusal_def}
 use Rattle.protocol.specs.ClientBytes.{awaited}
 use Rattle.client.specs.Rounds.{abort_by_rounds}
 use Rattle.client.proofs.StepsSame.{same_abort}
-use Rattle.decide.proofs.Arguments.{refusal_some}
+use Rattle.erasure.proofs.Refused.{refused-number}
 use Rattle.client.proofs.begin.give_up_in.Goals as goal
 use Rattle.client.proofs.begin.give_up_in.Goals.{then-call-eq-COMPLETE, else-call-eq-COMPLETE}
 
@@ -22,7 +22,7 @@ returns-in_err-abort_refusal c =
       p.1,
       p.2,
       same_abort a.party.t a.party.client a.call (search rules),
-      refused_is (abort_refusal_def (shelf a.party.t) a.party.client (awaited a.call)) _ _ (λ z. refusal_some c.in_err-abort_refusal.field-0.0 (e ∙ z)),
+      refused_is (abort_refusal_def (shelf a.party.t) a.party.client (awaited a.call)) _ _ (λ z. refused-number c.in_err-abort_refusal.field-0.0 (e ∙ z)),
       ← e,
     ) refl
 

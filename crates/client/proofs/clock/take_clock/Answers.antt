@@ -36,7 +36,7 @@ pub note_reply-noted-requires : goal.note_reply-noted-requires
 note_reply-noted-requires c =
     let a = c.args in (
       (ready-faults a.party.t a.party.client a.call a.reply.now a.passed.head c.requires.0).1,
-      ready-server a.party.t a.party.client a.call a.reply.now a.passed.head c.requires.0,
+      rw c.from.ensures (ready-server a.party.t a.party.client a.call a.reply.now a.passed.head c.requires.0),
     )
 
 pub is_full-ends-requires : goal.is_full-ends-requires
@@ -50,7 +50,7 @@ returns-in_err-clock_refusal c =
     let high_is : c.higher-high.result ≡ higher real a.writers.now a.call.high (stamp_at_def (drop head_size a.reply.now)) =
     c.higher-high.ensures ∙ ap (λ (d : List ℕ). higher real a.writers.now a.call.high (stamp_at_def d)) c.rest-body.ensures in
     let ended : ends (shelf a.party.t) a.call a.passed.head.server ≡ c.is_full-ends.result =
-    ends_by a.party.t a.call a.passed.head.server _ (ap (λ (z : Call). z.tally) c.note_reply-noted.ensures) _ _ c.is_full-ends.ensures refl in
+    ends_by a.party.t a.call a.passed.head.server _ (ap (λ (z : Call). z.tally) (rw c.from.ensures at c.note_reply-noted.ensures)) _ _ c.is_full-ends.ensures refl in
     let p = err_from_is_err_and c.from_residual.result c.from_residual.ensures.1 in
     λ output l. rw (p.1, p.2) (clock-refused a.party.t a.party.client a.call a.reply.now a.passed.head y a.writers.now a.keys.now a.kept.now output
     c.requires.1.0 c.in_err-clock_refusal.field-0.0 a.room c.higher-high.result (rw ended c.in_err-clock_refusal.ensures) high_is l)
@@ -63,7 +63,7 @@ end_clock-requires c =
     let high_is : c.higher-high.result ≡ higher real a.writers.now a.call.high (stamp_at_def (drop head_size a.reply.now)) =
     c.higher-high.ensures ∙ ap (λ (d : List ℕ). higher real a.writers.now a.call.high (stamp_at_def d)) c.rest-body.ensures in
     let ended : ends (shelf a.party.t) a.call a.passed.head.server ≡ c.is_full-ends.result =
-    ends_by a.party.t a.call a.passed.head.server _ (ap (λ (z : Call). z.tally) c.note_reply-noted.ensures) _ _ c.is_full-ends.ensures refl in
+    ends_by a.party.t a.call a.passed.head.server _ (ap (λ (z : Call). z.tally) (rw c.from.ensures at c.note_reply-noted.ensures)) _ _ c.is_full-ends.ensures refl in
     let f = ready-faults a.party.t a.party.client a.call a.reply.now a.passed.head y in
     let b = clock-below a.party.t a.party.client a.call a.reply.now a.passed.head y a.writers.now a.keys.now a.kept.now [] p.1.0 a.room
     c.higher-high.result (rw ended c.in_ok-clock_refusal.ensures) high_is (ended ∙ c.if-ends.true) in
@@ -77,7 +77,7 @@ returns-then-ends c =
     let high_is : c.higher-high.result ≡ higher real a.writers.now a.call.high (stamp_at_def (drop head_size a.reply.now)) =
     c.higher-high.ensures ∙ ap (λ (d : List ℕ). higher real a.writers.now a.call.high (stamp_at_def d)) c.rest-body.ensures in
     let ended : ends (shelf a.party.t) a.call a.passed.head.server ≡ c.is_full-ends.result =
-    ends_by a.party.t a.call a.passed.head.server _ (ap (λ (z : Call). z.tally) c.note_reply-noted.ensures) _ _ c.is_full-ends.ensures refl in
+    ends_by a.party.t a.call a.passed.head.server _ (ap (λ (z : Call). z.tally) (rw c.from.ensures at c.note_reply-noted.ensures)) _ _ c.is_full-ends.ensures refl in
     λ output l. rw (c.end_clock.ensures.0, c.end_clock.ensures.1)
     (clock-ended a.party.t a.party.client a.call a.reply.now a.passed.head y a.writers.now a.keys.now a.kept.now output p.1.0 a.room
     c.higher-high.result (rw ended c.in_ok-clock_refusal.ensures) high_is l (ended ∙ c.if-ends.true))
@@ -90,7 +90,7 @@ returns c =
     let high_is : c.higher-high.result ≡ higher real a.writers.now a.call.high (stamp_at_def (drop head_size a.reply.now)) =
     c.higher-high.ensures ∙ ap (λ (d : List ℕ). higher real a.writers.now a.call.high (stamp_at_def d)) c.rest-body.ensures in
     let ended : ends (shelf a.party.t) a.call a.passed.head.server ≡ c.is_full-ends.result =
-    ends_by a.party.t a.call a.passed.head.server _ (ap (λ (z : Call). z.tally) c.note_reply-noted.ensures) _ _ c.is_full-ends.ensures refl in
-    λ output l. rw (c.more.ensures, c.note_reply-noted.ensures)
+    ends_by a.party.t a.call a.passed.head.server _ (ap (λ (z : Call). z.tally) (rw c.from.ensures at c.note_reply-noted.ensures)) _ _ c.is_full-ends.ensures refl in
+    λ output l. rw (c.more.ensures, c.note_reply-noted.ensures, c.from.ensures)
     (clock-noted a.party.t a.party.client a.call a.reply.now a.passed.head y a.writers.now a.keys.now a.kept.now output p.1.0 a.room
     c.higher-high.result (rw ended c.in_ok-clock_refusal.ensures) high_is l (ended ∙ c.if-ends.false))

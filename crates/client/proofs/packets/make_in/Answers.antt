@@ -1,7 +1,7 @@
 -- Each way to a return is one case of the definition. Nothing is assumed.
 use Rattle.std.proofs.Common.{◌∙◌, sym}
 use Rattle.std.proofs.lemmas.Result.{err_from_is_err_and}
-use Rattle.decide.proofs.Arguments.{refusal_some}
+use Rattle.erasure.proofs.Refused.{refused-number}
 use Rattle.client.proofs.Makes.{make_short, make-refused, make_goes, make-fits}
 use Rattle.client.proofs.packets.make_in.Goals as goal
 
@@ -14,7 +14,7 @@ returns-in_err-make_refusal c =
     let a = c.args in
     let p = err_from_is_err_and c.from_residual.result c.from_residual.ensures.1 in
     rw (p.1, p.2) (sym (make-refused a.party.t a.party.client a.server a.call a.kept.now a.out.now c.if-kept-ne-KEPT.false _
-    c.in_err-make_refusal.ensures (refusal_some c.in_err-make_refusal.field-0.0)))
+    c.in_err-make_refusal.ensures (refused-number c.in_err-make_refusal.field-0.0)))
 
 pub make_round-requires : goal.make_round-requires
 make_round-requires c =

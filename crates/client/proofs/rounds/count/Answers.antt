@@ -1,35 +1,25 @@
--- So many of the first servers are marked. Nothing is assumed.
-use Rattle.std.proofs.Common.{◌≡◌, ◌∙◌, sym, ap, ℕ, ◌<◌, length, arith, rules}
-use Rattle.std.proofs.lemmas.List.{get_or-take, length-take}
+-- The marks that are not 0 are those of the servers that replied. Nothing is assumed.
+use Rattle.std.proofs.Common.{◌≡◌, ◌∙◌, sym, refl, ℕ, zero, suc, ◌+◌, ◌≤◌, List, not, eqb, length, take, arith, rules, Bool, true, false, get_or, add-one}
+use Rattle.std.specs.List.{count_by}
+use Rattle.std.proofs.lemmas.List.Sums.{count_by_more_yes, count_by_more_no}
 use Rattle.protocol.specs.Rules.{count_to}
 use Rattle.protocol.specs.View.{marked}
-use Rattle.protocol.proofs.Marks.{count-le}
 use Rattle.decide.proofs.Counted.{count_in, count_out, count_none}
-use Rattle.decide.proofs.Groups.{unmarked, is-marked}
 use Rattle.client.proofs.rounds.count.Goals as goal
-use Rattle.client.proofs.rounds.count.Goals.{then-mark-ne0, else-mark-ne0}
 
-pub loop-mark-init : goal.loop-mark-init
-loop-mark-init c = sym (count_none (marked c.args.marks))
-
-pub overflow_add-c : goal.overflow_add-c
-overflow_add-c c =
-    let l = length-take c.args.n c.args.marks in
-    omega (arith, c.loop-mark.invariant, count-le c.loop-mark.mark-index (marked c.args.marks), l)
-
-pub loop-mark-preserved : goal.loop-mark-preserved
-loop-mark-preserved c =
-    let ms = c.args.marks in
-    let i : ℕ = c.loop-mark.mark-index in
-    let l : i < c.args.n = omega (arith, length-take c.args.n ms) in
-    let e = get_or-take c.args.n ms i 0 l in
-    elim c.if-mark-ne0.branch [
-      | then-mark-ne0 w ↦ omega (arith, w.c-is, c.loop-mark.invariant, count_in i (marked ms) (is-marked ms i (λ z. w.if-mark-ne0.true (e ∙ z))))
-      | else-mark-ne0 w ↦ omega (arith, w.c-is, c.loop-mark.invariant, count_out i (marked ms) (unmarked ms i (sym e ∙ w.if-mark-ne0.false)))
-    ]
+-- so many of the first marks are those of servers that replied
+marks_counted : (ms : List ℕ) (n : ℕ) → n ≤ length ms → count_by (λ (m : ℕ). not (eqb m 0)) (take n ms) ≡ count_to n (marked ms)
+unfolding marked
+marks_counted ms zero h = sym (count_none (marked ms))
+marks_counted ms (suc n) h = rw (← add-one n) (go (not (eqb (get_or ms n 0) 0)) refl (marks_counted ms n (omega arith)))
+  where
+    go : (b : Bool) → not (eqb (get_or ms n 0) 0) ≡ b → count_by (λ (m : ℕ). not (eqb m 0)) (take n ms) ≡ count_to n (marked ms)
+        → count_by (λ (m : ℕ). not (eqb m 0)) (take (n + 1) ms) ≡ count_to (n + 1) (marked ms)
+    go true e f = omega (arith, f, count_by_more_yes (λ (m : ℕ). not (eqb m 0)) ms n 0 (omega arith) e, count_in n (marked ms) e)
+    go false e f = omega (arith, f, count_by_more_no (λ (m : ℕ). not (eqb m 0)) ms n 0 (omega arith) e, count_out n (marked ms) e)
 
 pub returns : goal.returns
 returns c =
     let z : length c.args.marks ≡ 13 = search rules in
-    let e : c.loop-mark.mark-index ≡ c.args.n = omega (arith, length-take c.args.n c.args.marks, z, c.requires) in
-    c.loop-mark.invariant ∙ ap (λ (k : ℕ). count_to k (marked c.args.marks)) e
+    let e : c.count.result ≡ count_by (λ (m : ℕ). not (eqb m 0)) (take c.args.n c.args.marks) = search rules in
+    e ∙ marks_counted c.args.marks c.args.n (omega (arith, z, c.requires))

@@ -8,7 +8,7 @@ use Rattle.wire.specs.declared.packet.Passed.{Passed}
 use Rattle.wire.specs.Reads.{TookPacket}
 use Rattle.client.proofs.TakeTests.{take_broken, take_head, takes-refused}
 use Rattle.client.proofs.ReadyRanges.{server_range}
-use Rattle.decide.proofs.Arguments.{refusal_some}
+use Rattle.erasure.proofs.Refused.{refused-number}
 use Rattle.client.proofs.taking.take_reply.Goals as goal
 
 same_err : (x y : Refusal) → ◌≡◌ {A = Result Passed Refusal} (Err x) (Err y) → x ≡ y
@@ -38,7 +38,7 @@ returns-in_err-reply_refusal c =
     rw (p.1, p.2) (takes-refused a.party.t a.party.client a.writers.now a.keys.now a.call a.kept.now a.reply.now a.out.now
     c.in_err-reply_refusal.field-0.0
     (take_head a.party.t a.party.client a.writers.now a.keys.now a.call a.kept.now a.reply.now a.out.now c.requires.0 c.requires.1.0
-    c.in_ok-passed.passed.head r.packet _ c.in_err-reply_refusal.ensures (refusal_some c.in_err-reply_refusal.field-0.0)))
+    c.in_ok-passed.passed.head r.packet _ c.in_err-reply_refusal.ensures (refused-number c.in_err-reply_refusal.field-0.0)))
 
 pub take_round-requires : goal.take_round-requires
 take_round-requires c =
