@@ -1,13 +1,15 @@
 -- A part of the work area is lent and comes back: the whole then has the new bytes at the part's place. So a client's step on its slot is a put
 -- there. The list is what stands before the part, the part, and what stands after it. Assumes nothing.
-use mathlib.Core.Path.{◌≡◌, refl, ap, sym, ◌∙◌}
+use mathlib.Core.Path.{◌≡◌, refl, ap, sym, ◌∙◌, subst}
 use mathlib.Core.List.{List, ◌++◌, append_assoc}
 use Prim.Native.Nat.{ℕ, ◌+◌, ◌≤◌}
 use native.Mathlib.Omega.{arith}
 use lib.ListN.{length, take, drop, length-drop, take-append-drop}
 use lib.Seq.{length-take-le, drop-drop, drop-append-le}
 use borrow.Author.Tests.{eq-eqb}
+use Rattle.std.specs.Prelude.{Ok, Err}
 use Rattle.cluster.specs.Ranges.{top_client, most_servers}
+use Rattle.cluster.specs.declared.Refusal.{Refusal}
 use Rattle.protocol.specs.declared.Call.{Call}
 use Rattle.protocol.specs.View.{kept_size}
 use Rattle.format.specs.Reading.{bytes_at, put}
@@ -16,12 +18,11 @@ use Rattle.wire.specs.Make.{placed}
 use Rattle.wire.proofs.Put.{placed-wrote}
 use Rattle.state.specs.State.{state_size, call_bytes}
 use Rattle.state.proofs.Laws.{state-length}
-use Rattle.client.specs.declared.begin.Started.{Started}
 use Rattle.client.specs.declared.begin.Stopped.{Stopped}
-use Rattle.client.specs.Answers.{started, stopped}
+use Rattle.client.specs.Answers.{begun, stopped}
 use Rattle.client.specs.Core.{core_write, core_read}
 use Rattle.drill.specs.Listing.{work_size}
-use Rattle.drill.specs.Area.{client_at_def, kept_at, call_in, kept_in, put_call_def, put_client, BeginsAs, StopsAs}
+use Rattle.drill.specs.Area.{client_at_def, kept_at, call_in, kept_in, put_call_def, put_client, LeftAs, BeginsAs, StopsAs}
 
 -- ---- a part of a list
 
@@ -66,29 +67,47 @@ module _ (w : List ℕ) (c : ℕ) (h : (1 ≤ c) × (c ≤ top_client)) (size : 
   unfolding core_read
   core_read_lem t = rw (eq-eqb (length (kept_in w c)) kept_size kept-size)
 
-  -- a beginning on the slot lent
-  pub begins_as : (F : Call → List ℕ → Begun) (b : Begun) (k : ℕ) {x : Call} {a : ℕ} {ks out : List ℕ} {s : Started} → F (call_in w c) (kept_in w c) ≡ b
-      → x ≡ call_in w c → a ≡ kept_at c → k ≡ kept_size → s ≡ started (F x (take k (drop a w))) → ks ≡ (F x (take k (drop a w))).kept → length ks ≡ length
-      (take k (drop a w))
-      → out ≡ put_call_def (take a w ++ (ks ++ drop k (drop a w))) c s.call → length s.call.tally.marks ≡ most_servers
-      → BeginsAs b w c out s.outcome.number
-  unfolding put_client kept_in
-  begins_as F b k {x} {a} {ks} {out} {s} e ex ea ek es eks l₀ eo m =
-      let y : take k (drop a w) ≡ bytes_at w (kept_at c) kept_size = rw ea (lent w (kept_at c) k kept_size ek) in
-      let l : length ks ≡ kept_size = l₀ ∙ ap length y ∙ kept-size in
-      let f : F x (take k (drop a w)) ≡ b = rw (ex, y) e in
-      let es' : s ≡ started b = es ∙ ap started f in
-      let ek' : ks ≡ b.kept = eks ∙ ap (λ (z : Begun). z.kept) f in
-      let n = ap (λ (z : Started). z.outcome.number) es' in
-      let q : s.call ≡ b.call = ap (λ (z : Started). z.call) es' in
-      let g : take a w ++ (ks ++ drop k (drop a w)) ≡ put w (kept_at c) b.kept = rw ea (back w (kept_at c) k ks (l ∙ sym ek)) ∙ ap (put w (kept_at c))
-      ek' in
-      record {
-        result = n;
-        area = eo ∙ ap (λ (z : List ℕ). put_call_def z c s.call) g ∙ ap (put_call_def (put w (kept_at c) b.kept) c) q;
-        size = sym (ap length ek') ∙ l;
-        marks = sym (ap (λ (z : Call). length z.tally.marks) q) ∙ m;
-      }
+  -- the part of the area that holds the kept bytes is lent, and comes back
+  module _ (k : ℕ) {a : ℕ} (ea : a ≡ kept_at c) (ek : k ≡ kept_size) where
+    pub kept_lent : take k (drop a w) ≡ kept_in w c
+    unfolding kept_in
+    kept_lent = rw ea (lent w (kept_at c) k kept_size ek)
+
+    pub write_lent : (t : ℕ) (content nonce : List ℕ) {x : Call} → x ≡ call_in w c
+        → core_write t c x (take k (drop a w)) content nonce ≡ begin_write_def t c (call_in w c) (kept_in w c) content nonce
+    write_lent t content nonce ex = rw (ex, kept_lent) (core_write_lem t content nonce)
+
+    pub read_lent : (t : ℕ) {x : Call} → x ≡ call_in w c → core_read t c x (take k (drop a w)) ≡ begin_read_def t c (call_in w c) (kept_in w c)
+    read_lent t ex = rw (ex, kept_lent) (core_read_lem t)
+
+    module _ (ks : List ℕ) (l₀ : length ks ≡ length (take k (drop a w))) where
+      pub kept-length : length ks ≡ kept_size
+      kept-length = l₀ ∙ ap length kept_lent ∙ kept-size
+
+      kept_back : take a w ++ (ks ++ drop k (drop a w)) ≡ put w (kept_at c) ks
+      kept_back = rw ea (back w (kept_at c) k ks (kept-length ∙ sym ek))
+
+      -- after a step that is accepted, with the small state put, and after one that is refused
+      pub left_ok : {A : Type 0} (u : A) (x : Call) {out : List ℕ} → out ≡ put_call_def (take a w ++ (ks ++ drop k (drop a w))) c x
+          → length x.tally.marks ≡ most_servers → LeftAs (Ok u) w c out x ks
+      unfolding put_client
+      left_ok u x eo m = (eo ∙ ap (λ (z : List ℕ). put_call_def z c x) kept_back, m)
+
+      pub left_err : (A : Type 0) (why : Refusal) (x : Call) → x ≡ call_in w c
+          → LeftAs {A = A} (Err why) w c (take a w ++ (ks ++ drop k (drop a w))) x ks
+      left_err A why x ex = (kept_back, ex)
+
+      -- a beginning
+      pub begins_ok : (b : Begun) (x d : Call) {out : List ℕ} → begun x (Ok d) ks ≡ b → out ≡ put_call_def (take a w ++ (ks ++ drop k (drop a w))) c d
+          → length d.tally.marks ≡ most_servers → BeginsAs b w c out (Ok tt)
+      begins_ok b x d {out} e eo m =
+          subst (λ (z : Begun). BeginsAs z w c out (Ok tt)) e (record { result = refl; area = left_ok (tt {0}) d eo m; size = kept-length })
+
+      pub begins_err : (b : Begun) (x : Call) (why : Refusal) → begun x (Err why) ks ≡ b → x ≡ call_in w c
+          → BeginsAs b w c (take a w ++ (ks ++ drop k (drop a w))) (Err why)
+      begins_err b x why e ex =
+          subst (λ (z : Begun). BeginsAs z w c (take a w ++ (ks ++ drop k (drop a w))) (Err why)) e (record
+          { result = refl; area = left_err (Unit {0}) why x ex; size = kept-length })
 
   pub call_fits : client_at_def c + 64 ≤ length w
   unfolding client_at_def
@@ -111,16 +130,14 @@ pub kept-place : (c : ℕ) {a : ℕ} → a ≡ client_at_def c → a + 64 ≡ ke
 unfolding kept_at
 kept-place c e = ap (λ (z : ℕ). z + 64) e
 
--- giving up
-pub stops_as : (w : List ℕ) (c t : ℕ) {x : Call} {out : List ℕ} {s : Stopped} → x ≡ call_in w c → stopped s ≡ give_up_def t c x → out ≡ put_call_def w c
-    s.call
-    → length s.call.tally.marks ≡ most_servers → StopsAs (give_up_def t c (call_in w c)) w c out s.answer
-stops_as w c t {x} {out} {s} ex es eo m =
-    let e : stopped s ≡ give_up_def t c (call_in w c) = es ∙ ap (give_up_def t c) ex in
-    let q : s.call ≡ (give_up_def t c (call_in w c)).call = ap (λ (z : GaveUp). z.call) e in
-    record {
-      result = ap (λ (z : GaveUp). z.answer) e;
-      area = eo ∙ ap (put_call_def w c) q;
-      marks = sym (ap (λ (z : Call). length z.tally.marks) q) ∙
-          m;
-    }
+-- ---- giving up
+
+module _ (w : List ℕ) (c t : ℕ) (x : Call) (ex : x ≡ call_in w c) where
+  pub stops_ok : (s : Stopped) {out : List ℕ} → stopped x (Ok s) ≡ give_up_def t c x → out ≡ put_call_def w c s.call
+      → length s.call.tally.marks ≡ most_servers → StopsAs (give_up_def t c (call_in w c)) w c out (Ok s.answer)
+  stops_ok s {out} e eo m =
+      subst (λ (z : GaveUp). StopsAs z w c out (Ok s.answer)) (e ∙ ap (give_up_def t c) ex) (record { result = refl; area = (eo, m) })
+
+  pub stops_err : (why : Refusal) → stopped x (Err why) ≡ give_up_def t c x → StopsAs (give_up_def t c (call_in w c)) w c w (Err why)
+  stops_err why e =
+      subst (λ (z : GaveUp). StopsAs z w c w (Err why)) (e ∙ ap (give_up_def t c) ex) (record { result = refl; area = (refl, ex) })

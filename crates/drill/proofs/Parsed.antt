@@ -1,12 +1,11 @@
 -- What the code reads is what the sheet holds: the numbers of a line, if they have the form asked for.
 -- By cases. Assumes nothing.
-use mathlib.Core.Path.{◌≡◌, refl, ap, ◌∙◌}
+use mathlib.Core.Path.{◌≡◌, refl}
 use mathlib.Core.Bool.{Bool, true, false}
 use mathlib.Core.List.{List}
-use mathlib.Core.Option.{Option, none, some}
+use mathlib.Core.Option.{none, some}
 use Prim.Native.Nat.{ℕ, ◌≤◌, ◌<◌}
 use native.Mathlib.Omega.{arith}
-use lib.ListN.{length}
 use borrow.Author.Tests.{ne_eqb, lt-ltb, le-ltb}
 use Rattle.cluster.specs.Ranges.{top_number}
 use Rattle.std.specs.Bool.{then_some}
@@ -14,39 +13,27 @@ use Rattle.std.specs.Prelude as std
 use Rattle.std.specs.Prelude.{None, Some, MatchOption, IsSome}
 use Rattle.format.specs.Format.{guard}
 use Rattle.columns.specs.Lines.{Text}
-use Rattle.columns.specs.Columns.{on_some, read_text}
-use Rattle.columns.specs.Reads.{LineRead, read_into}
+use Rattle.columns.specs.Columns.{read_text}
+use Rattle.columns.specs.Reads.{told}
 use Rattle.drill.specs.declared.sheet.Line.{Line}
 use Rattle.drill.specs.declared.verbs.Verb.{Verb}
-use Rattle.drill.specs.Reads.{line_of, verb_number}
+use Rattle.drill.specs.Reads.{verb_number}
 use Rattle.drill.specs.Sheet.{field_count, fields_of, read_line_def, is_first_def, is_step_def, first_line_def, step_line_def}
 
--- ---- the numbers of a line, as columns tells them
+-- ---- the numbers of a line
 
-module _ (x : Text) (old : List ℕ) (n : length old ≡ field_count) {b : Bool} {new : List ℕ}
-    (e : record { read = b; values = new } ≡ read_into (read_text (length old) x) old) where
-  fields_told : record { read = b; values = new } ≡ read_into (read_text field_count x) old
-  fields_told = e ∙ ap (λ (k : ℕ). read_into (read_text k x) old) n
-
-  pub not_read : b ≡ false → read_line_def x ≡ none
+module _ (x : Text) where
+  pub no_numbers : read_text field_count x ≡ none → read_line_def x ≡ none
   unfolding read_line_def
-  not_read h = go (read_text field_count x) (ap (λ (a : LineRead). a.read) fields_told)
-    where
-      go : (o : Option (List ℕ)) → b ≡ (read_into o old).read → on_some o (λ vs. some (fields_of vs)) ≡ none
-      go none q = refl
-      go (some vs) q = let z : ◌≡◌ {A = ℕ} 0 1 = cc in absurd (omega arith)
+  no_numbers e = rw e
 
-  pub line_read : b ≡ true → read_line_def x ≡ some (fields_of new)
+  pub numbers : (vs : List ℕ) → read_text field_count x ≡ some vs → read_line_def x ≡ some (fields_of vs)
   unfolding read_line_def
-  line_read h = go (read_text field_count x) (ap (λ (a : LineRead). a.read) fields_told) (ap (λ (a : LineRead). a.values) fields_told)
-    where
-      go : (o : Option (List ℕ)) → b ≡ (read_into o old).read → new ≡ (read_into o old).values → on_some o (λ vs. some (fields_of vs)) ≡ some (fields_of new)
-      go none q v = let z : ◌≡◌ {A = ℕ} 0 1 = cc in absurd (omega arith)
-      go (some vs) q v = rw v
+  numbers vs e = rw e
 
 -- ---- lines of their form
 
-guarded : (b : Bool) (l : Line) → line_of (then_some b l) ≡ guard b (some l)
+guarded : (b : Bool) (l : Line) → told (then_some b l) ≡ guard b (some l)
 guarded true l = refl
 guarded false l = refl
 
@@ -55,7 +42,7 @@ module _ (x : Text) where
   unfolding first_line_def
   no_text e = rw e
 
-  pub first_text : (l : Line) {b : Bool} → read_line_def x ≡ some l → b ≡ is_first_def l → line_of (then_some b l) ≡ first_line_def x
+  pub first_text : (l : Line) {b : Bool} → read_line_def x ≡ some l → b ≡ is_first_def l → told (then_some b l) ≡ first_line_def x
   unfolding first_line_def
   first_text l e h = rw (e, h) (guarded (is_first_def l) l)
 
@@ -68,7 +55,7 @@ module _ (x : Text) where
     unfolding step_line_def
     no_step_text h e = rw (lt-ltb n top_number h, e)
 
-    pub step_text : n < top_number → (l : Line) {b : Bool} → read_line_def x ≡ some l → b ≡ is_step_def l → line_of (then_some b l) ≡ step_line_def n x
+    pub step_text : n < top_number → (l : Line) {b : Bool} → read_line_def x ≡ some l → b ≡ is_step_def l → told (then_some b l) ≡ step_line_def n x
     unfolding step_line_def
     step_text k l e h = rw (lt-ltb n top_number k, e, h) (guarded (is_step_def l) l)
 

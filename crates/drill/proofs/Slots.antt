@@ -1,6 +1,6 @@
 -- A server's step on its memory and a client's taking and making on its slot, each in the part of the work area lent to it.
 -- The part that comes back is put at its place. Assumes nothing.
-use mathlib.Core.Path.{◌≡◌, ap, sym, ◌∙◌}
+use mathlib.Core.Path.{◌≡◌, refl, ap, sym, ◌∙◌, subst}
 use mathlib.Core.List.{List, ◌++◌}
 use Prim.Native.Nat.{ℕ, ◌+◌, ◌≤◌}
 use native.Mathlib.Omega.{arith}
@@ -15,12 +15,15 @@ use Rattle.protocol.specs.View.{kept_size}
 use Rattle.format.specs.Reading.{bytes_at, put}
 use Rattle.protocol.specs.ServerBytes.{Served, Blanked}
 use Rattle.protocol.specs.ClientBytes.{Took, client_make, client_take}
+use Rattle.std.specs.Prelude.{Ok, Err}
+use Rattle.cluster.specs.declared.Refusal.{Refusal}
+use Rattle.protocol.specs.declared.Taken.{Taken}
 use Rattle.client.specs.declared.answers.Answered.{Answered}
 use Rattle.client.specs.Answers.{answered}
 use Rattle.client.specs.Core.{core_make, core_take}
 use Rattle.drill.specs.Listing.{work_size}
-use Rattle.drill.specs.Area.{server_at_def, kept_at, call_in, kept_in, memory_in, put_call_def, put_client, put_memory, ServesAs, BlanksAs, TakesAs}
-use Rattle.drill.proofs.Lending.{lent, back, kept-size}
+use Rattle.drill.specs.Area.{server_at_def, kept_at, call_in, kept_in, memory_in, put_call_def, put_memory, ServesAs, BlanksAs, TakesAs}
+use Rattle.drill.proofs.Lending.{lent, back, kept-size, kept_lent, kept-length, left_ok, left_err}
 
 -- ---- a server's memory
 
@@ -78,25 +81,29 @@ module _ (w : List ℕ) (c : ℕ) (h : (1 ≤ c) × (c ≤ top_client)) (size : 
   unfolding core_take
   core_take_lem t writers keys reply output = rw (eq-eqb (length (kept_in w c)) kept_size (kept-size w c h size))
 
-  pub takes_as : (F : Call → List ℕ → Took) (d : Took) (k : ℕ) {x : Call} {a : ℕ} {ks after out : List ℕ} {s : Answered} → F (call_in w c) (kept_in w c)
-      ≡ d
-      → x ≡ call_in w c → a ≡ kept_at c → k ≡ kept_size → answered s ks out ≡ F x (take k (drop a w)) → length ks ≡ length (take k (drop a w))
-      → after ≡ put_call_def (take a w ++ (ks ++ drop k (drop a w))) c s.call → length s.call.tally.marks ≡ most_servers
-      → TakesAs d w c after out s.answer
-  unfolding put_client kept_in
-  takes_as F d k {x} {a} {ks} {after} {out} {s} e ex ea ek es l₀ ef m =
-      let y : take k (drop a w) ≡ bytes_at w (kept_at c) kept_size = rw ea (lent w (kept_at c) k kept_size ek) in
-      let l : length ks ≡ kept_size = l₀ ∙ ap length y ∙ kept-size w c h size in
-      let f : F x (take k (drop a w)) ≡ d = rw (ex, y) e in
-      let es' : answered s ks out ≡ d = es ∙ f in
-      let ek' : ks ≡ d.kept = ap (λ (z : Took). z.kept) es' in
-      let q : s.call ≡ d.call = ap (λ (z : Took). z.call) es' in
-      let g : take a w ++ (ks ++ drop k (drop a w)) ≡ put w (kept_at c) d.kept = rw ea (back w (kept_at c) k ks (l ∙ sym ek)) ∙ ap (put w (kept_at c))
-      ek' in
-      record {
-        result = ap (λ (z : Took). z.answer) es';
-        area = ef ∙ ap (λ (z : List ℕ). put_call_def z c s.call) g ∙ ap (put_call_def (put w (kept_at c) d.kept) c) q;
-        written = ap (λ (z : Took). z.output) es';
-        size = sym (ap length ek') ∙ l;
-        marks = sym (ap (λ (z : Call). length z.tally.marks) q) ∙ m;
-      }
+  module _ (k : ℕ) {a : ℕ} (ea : a ≡ kept_at c) (ek : k ≡ kept_size) where
+    pub take_lent : (t : ℕ) (writers : List ℕ) (keys : List (List ℕ)) (reply output : List ℕ) {x : Call} → x ≡ call_in w c
+        → core_take t c writers keys x (take k (drop a w)) reply output ≡ client_take real t c writers keys (call_in w c) (kept_in w c) reply output
+    take_lent t writers keys reply output ex =
+        rw (ex, kept_lent w c h size k ea ek) (core_take_lem t writers keys reply output)
+
+    module _ (ks : List ℕ) (l₀ : length ks ≡ length (take k (drop a w))) (d : Took) (x : Call) {o : List ℕ} where
+      pub takes_ok : (s : Answered) {out : List ℕ} → answered x (Ok s) ks o ≡ d → out ≡ put_call_def (take a w ++ (ks ++ drop k (drop a w))) c s.call
+          → length s.call.tally.marks ≡ most_servers → TakesAs d w c out o (Ok s.answer)
+      takes_ok s {out} e eo m =
+          subst (λ (z : Took). TakesAs z w c out o (Ok s.answer)) e (record {
+            result = refl;
+            area = left_ok w c h size k ea ek ks l₀ s.answer s.call eo m;
+            written = refl;
+            size = kept-length w c h size k ea ek ks l₀;
+          })
+
+      pub takes_err : (why : Refusal) → answered x (Err why) ks o ≡ d → x ≡ call_in w c
+          → TakesAs d w c (take a w ++ (ks ++ drop k (drop a w))) o (Err why)
+      takes_err why e ex =
+          subst (λ (z : Took). TakesAs z w c (take a w ++ (ks ++ drop k (drop a w))) o (Err why)) e (record {
+            result = refl;
+            area = left_err w c h size k ea ek ks l₀ Taken why x ex;
+            written = refl;
+            size = kept-length w c h size k ea ek ks l₀;
+          })

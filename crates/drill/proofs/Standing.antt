@@ -7,11 +7,13 @@ use mathlib.Core.Logic.{◌≢◌, ◌⊎◌, inl, inr, ⊎_elim}
 use Prim.Native.Nat.{ℕ, ◌+◌, ◌-◌, ◌≤◌}
 use native.Mathlib.Omega.{arith}
 use lib.Dec.{eqb}
+use Rattle.std.specs.Prelude.{Result, Ok, Err}
 use lib.ListN.{length}
 use borrow.Author.Tests.{eqb-true, eqb-false}
 use Rattle.cluster.specs.Config.{shelf}
 use Rattle.cluster.specs.Ranges.{within, top_client, most_servers, memory_size, top_faults}
-use Rattle.cluster.proofs.Tests.{within_bounds}
+use Rattle.cluster.proofs.Tests.{within_bounds, within_in}
+use Rattle.cluster.specs.declared.Refusal.{Refusal}
 use Rattle.protocol.specs.declared.Call.{Call}
 use Rattle.protocol.specs.View.{kept_size}
 use Rattle.format.specs.Reading.{bytes_at, put}
@@ -23,7 +25,7 @@ use Rattle.format.proofs.Places.{part_same, part-below, part-other, slots_apart}
 use Rattle.state.specs.State.{state_size, call_at, call_bytes}
 use Rattle.state.proofs.Laws.{state-length, state_back}
 use Rattle.drill.specs.Listing.{work_size}
-use Rattle.drill.specs.Area.{server_at_def, clients_at, client_slot, client_at_def, kept_at, call_in, kept_in, memory_in, put_call_def, put_client, Stands}
+use Rattle.drill.specs.Area.{server_at_def, clients_at, client_slot, client_at_def, kept_at, call_in, kept_in, memory_in, put_call_def, put_client, LeftAs, StoppedAs, Stands}
 
 -- ---- places apart
 
@@ -95,6 +97,10 @@ module _ (w : List ℕ) (c : ℕ) (hc : (1 ≤ c) × (c ≤ top_client)) (size :
   unfolding kept_in
   kept_here = ap (bytes_at (put w (kept_at c) k) (kept_at c)) (sym l) ∙ part_same w (kept_at c) k kept-room
 
+  pub call-kept_here : call_in (put w (kept_at c) k) c ≡ call_in w c
+  unfolding call_in kept_at
+  call-kept_here = ap call_at (part-below w (client_at_def c + 64) k kept-room (client_at_def c) state_size (omega arith))
+
   pub call-kept-there : (i : ℕ) → (1 ≤ i) × (i ≤ top_client) → i ≢ c → call_in (put w (kept_at c) k) i ≡ call_in w i
   unfolding call_in kept_at
   call-kept-there i hi d =
@@ -162,6 +168,26 @@ module _ (t : ℕ) (w : List ℕ) (m : Machines) (ht : t ≤ top_faults) (st : S
         memory = λ b hb. memory-there w c hc st.size x lx t b ht (within_bounds 1 (shelf t).servers b hb) ∙ st.memory b hb;
       }
 
+  -- only the kept bytes change
+  pub kept_put : (c : ℕ) → within 1 top_client c ≡ true → (k : List ℕ) → length k ≡ kept_size
+      → Stands t (put w (kept_at c) k) (record { client = upd m.client c (record { call = (m.client c).call; kept = k }); memory = m.memory })
+  unfolding upd
+  kept_put c hw k lk =
+      let hc = within_bounds 1 top_client c hw in
+      let n : Machine = record { call = (m.client c).call; kept = k } in
+      record {
+        size = put-kept-size w c hc st.size k lk;
+        calls = λ i hi.
+            at-cond (eqb i c) n (m.client i) (λ z. call_in (put w (kept_at c) k) i ≡ z.call)
+            (λ e. let q = eqb-true i c e in rw q (call-kept_here w c hc st.size k lk ∙ st.calls c hw))
+            (λ e. call-kept-there w c hc st.size k lk i (within_bounds 1 top_client i hi) (eqb-false i c e) ∙ st.calls i hi);
+        kept = λ i hi.
+            at-cond (eqb i c) n (m.client i) (λ z. kept_in (put w (kept_at c) k) i ≡ z.kept)
+            (λ e. let q = eqb-true i c e in rw q (kept_here w c hc st.size k lk))
+            (λ e. kept-kept-there w c hc st.size k lk i (within_bounds 1 top_client i hi) (eqb-false i c e) ∙ st.kept i hi);
+        memory = λ b hb. memory-kept-there w c hc st.size k lk t b ht (within_bounds 1 (shelf t).servers b hb) ∙ st.memory b hb;
+      }
+
   -- nothing changes
   pub nothing_put : (c : ℕ) (n : Machine) → n ≡ m.client c → Stands t w (record { client = upd m.client c n; memory = m.memory })
   unfolding upd
@@ -174,3 +200,19 @@ module _ (t : ℕ) (w : List ℕ) (m : Machines) (ht : t ≤ top_faults) (st : S
         kept = λ i hi. st.kept i hi ∙ sym (ap (λ (z : Machine). z.kept) (same i));
         memory = st.memory;
       }
+
+  -- a step's area, whether it was refused or not
+  module _ {A : Type 0} (c : ℕ) (hc : (1 ≤ c) × (c ≤ top_client)) {v : List ℕ} (x : Call) where
+    pub left_stands : (told : Result A Refusal) (k : List ℕ) → LeftAs told w c v x k → length k ≡ kept_size
+        → Stands t v (record { client = upd m.client c (record { call = x; kept = k }); memory = m.memory })
+    left_stands (Ok a) k e lk = rw e.0 (client_put c hc _ _ e.1 lk)
+    left_stands (Err why) k e lk =
+        let hw = within_in 1 top_client c hc.0 hc.1 in
+        rw (e.0, e.1, st.calls c hw) (kept_put c hw _ lk)
+
+    pub stopped_stands : (told : Result A Refusal) → StoppedAs told w c v x
+        → Stands t v (record { client = upd m.client c (record { call = x; kept = (m.client c).kept }); memory = m.memory })
+    stopped_stands (Ok a) e = rw e.0 (call_put c (within_in 1 top_client c hc.0 hc.1) _ e.1)
+    stopped_stands (Err why) e =
+        let hw = within_in 1 top_client c hc.0 hc.1 in
+        rw (e.0, e.1, st.calls c hw) (nothing_put c (m.client c) refl)

@@ -14,8 +14,10 @@ use Rattle.cluster.proofs.Tests.{within_bounds}
 use Rattle.protocol.specs.declared.Call.{Call}
 use Rattle.protocol.specs.declared.Answer.{Answer}
 use Rattle.protocol.specs.declared.Aborted.{Aborted}
-use Rattle.protocol.specs.declared.Aborted.TheVariants as aborts
-use Rattle.protocol.specs.Answers.{aborted_answer}
+use Rattle.protocol.specs.Answers.{refused_answer, aborted_told}
+use Rattle.cluster.specs.Refusals.{number_told}
+use Rattle.cluster.specs.declared.Refusal.{Refusal}
+use Rattle.std.specs.Prelude.{Result}
 use Rattle.protocol.specs.Primitives.{real}
 use Rattle.protocol.specs.Client.{refused, write_step, read_step, abort_step, write_refusal_def, read_refusal_def, abort_refusal_def, of_write, awaits, accepted}
 use Rattle.protocol.specs.ClientBytes.{Begun, after, begun_by, begin_write_def, begin_read_def, give_up_def}
@@ -26,7 +28,7 @@ use Rattle.drill.specs.declared.shown.Shown.{Shown}
 use Rattle.drill.specs.Steps.{drill_shelf, nonce_for_def, write_line, shown}
 use Rattle.drill.specs.Area.{write_in_def, read_in_def, give_up_in_def, Stands, BeginsAs, StopsAs}
 use Rattle.drill.specs.Moves.{DoneIn, StepsIn}
-use Rattle.drill.proofs.Standing.{client_put, call_put, nothing_put}
+use Rattle.drill.proofs.Standing.{left_stands, stopped_stands, nothing_put}
 use Rattle.drill.proofs.Visiting.{inside}
 
 -- ---- out of a range
@@ -57,7 +59,7 @@ module _ (t c : ℕ) (ht : (1 ≤ t) × (t ≤ top_faults)) where
   unfolding begin_read_def begun_by after read_step read_refusal_def shelf
   no_reader x k h = rw (inside 1 top_faults t ht, h)
 
-  pub no_stopper : (x : Call) → within 1 top_client c ≡ false → give_up_def t c x ≡ record { answer = aborted_answer (aborts.Refused 5); call = x }
+  pub no_stopper : (x : Call) → within 1 top_client c ≡ false → give_up_def t c x ≡ record { answer = refused_answer 5; call = x }
   unfolding give_up_def after abort_step abort_refusal_def shelf
   no_stopper x h = rw (inside 1 top_faults t ht, no-client (of_write (awaits (view (shelf t) x []).hand)) c h)
 
@@ -75,23 +77,23 @@ module _ (t k c n fill : ℕ) (ht : t ≤ top_faults) (w : List ℕ) where
         counts = λ m st. rw (e (m.client c).call (m.client c).kept);
       }
 
-  module _ (hc : (1 ≤ c) × (c ≤ top_client)) {content nonce after : List ℕ} {number : ℕ} {x : Shown} (ec : content ≡ replicate n fill)
+  module _ (hc : (1 ≤ c) × (c ≤ top_client)) {content nonce after : List ℕ} {told : Result (Unit {0}) Refusal} (ec : content ≡ replicate n fill)
       (en : nonce ≡ nonce_for_def (suc k))
-      (e : BeginsAs (write_in_def t w c content nonce) w c after number) (ex : x ≡ shown (result_of number)) where
+      (e : BeginsAs (write_in_def t w c content nonce) w c after told) where
     begins : (m : Machines) → Stands t w m → BeginsAs (begin_write_def t c (m.client c).call (m.client c).kept (replicate n fill) (nonce_for_def (suc k))) w
-        c after number
+        c after told
     begins m st =
         let r : write_in_def t w c content nonce ≡ begin_write_def t c (m.client c).call (m.client c).kept (replicate n fill) (nonce_for_def (suc k)) =
         rw (ec, en, st.calls c (inside 1 top_client c hc), st.kept c (inside 1 top_client c hc)) in
-        subst (λ (z : Begun). BeginsAs z w c after number) r e
+        subst (λ (z : Begun). BeginsAs z w c after told) r e
 
-    pub write_moves : (k' : ℕ) → k' ≡ cond (accepted (result_of number)) (suc k) k → StepsIn t (λ m. write_line (drill_shelf t) m k c n fill) w after x
-        k'
+    pub write_moves : (k' : ℕ) → k' ≡ cond (accepted (result_of (number_told told))) (suc k) k → StepsIn t (λ m. write_line (drill_shelf t) m k c n fill) w
+        after (shown (result_of (number_told told))) k'
     unfolding write_line do_bytes set_machine drill_shelf
     write_moves k' ek =
         record {
-          stands = λ m st. let f = begins m st in rw f.area (client_put t w m ht st c hc _ _ f.marks f.size);
-          shows = λ m st. ex ∙ ap (λ (z : ℕ). shown (result_of z)) (begins m st).result;
+          stands = λ m st. let f = begins m st in left_stands t w m ht st c hc _ told _ f.area f.size;
+          shows = λ m st. ap (λ (z : ℕ). shown (result_of z)) (begins m st).result;
           counts = λ m st. ek ∙ ap (λ (z : ℕ). cond (accepted (result_of z)) (suc k) k) (begins m st).result;
         }
 
@@ -113,16 +115,15 @@ module _ (t c : ℕ) (ht : (1 ≤ t) × (t ≤ top_faults)) (w : List ℕ) where
         shows = λ m st. rw (no_reader t c ht (m.client c).call (m.client c).kept h) ex;
       }
 
-  pub read_moves : (hc : (1 ≤ c) × (c ≤ top_client)) {after : List ℕ} {number : ℕ} {x : Shown} → BeginsAs (read_in_def t w c) w c after number → x ≡ shown
-      (result_of number)
-      → DoneIn t (λ m. do_bytes real (drill_shelf t) m (read c)) w after x
+  pub read_moves : (hc : (1 ≤ c) × (c ≤ top_client)) {after : List ℕ} (told : Result (Unit {0}) Refusal) → BeginsAs (read_in_def t w c) w c after told
+      → DoneIn t (λ m. do_bytes real (drill_shelf t) m (read c)) w after (shown (result_of (number_told told)))
   unfolding do_bytes set_machine drill_shelf
-  read_moves hc {after} {number} {x} e ex =
-      let f : (m : Machines) → Stands t w m → BeginsAs (begin_read_def t c (m.client c).call (m.client c).kept) w c after number =
+  read_moves hc {after} told e =
+      let f : (m : Machines) → Stands t w m → BeginsAs (begin_read_def t c (m.client c).call (m.client c).kept) w c after told =
       λ m st. rw (st.calls c (inside 1 top_client c hc), st.kept c (inside 1 top_client c hc)) at e in
       record {
-        stands = λ m st. rw (f m st).area (client_put t w m ht.1 st c hc _ _ (f m st).marks (f m st).size);
-        shows = λ m st. ex ∙ ap (λ (z : ℕ). shown (result_of z)) (f m st).result;
+        stands = λ m st. left_stands t w m ht.1 st c hc _ told _ (f m st).area (f m st).size;
+        shows = λ m st. ap (λ (z : ℕ). shown (result_of z)) (f m st).result;
       }
 
   -- ---- giving up
@@ -136,14 +137,13 @@ module _ (t c : ℕ) (ht : (1 ≤ t) × (t ≤ top_faults)) (w : List ℕ) where
         shows = λ m st. rw (no_stopper t c ht (m.client c).call h) ex;
       }
 
-  pub stop_moves : (hc : (1 ≤ c) × (c ≤ top_client)) {after : List ℕ} {answer : Aborted} {x : Shown} → StopsAs (give_up_in_def t w c) w c after answer → x ≡
-      shown (result_by (aborted_answer answer) [])
-      → DoneIn t (λ m. do_bytes real (drill_shelf t) m (give-up c)) w after x
+  pub stop_moves : (hc : (1 ≤ c) × (c ≤ top_client)) {after : List ℕ} (told : Result Aborted Refusal) → StopsAs (give_up_in_def t w c) w c after told
+      → DoneIn t (λ m. do_bytes real (drill_shelf t) m (give-up c)) w after (shown (result_by (aborted_told told) []))
   unfolding do_bytes set_machine drill_shelf
-  stop_moves hc {after} {answer} {x} e ex =
-      let f : (m : Machines) → Stands t w m → StopsAs (give_up_def t c (m.client c).call) w c after answer = λ m st. rw
+  stop_moves hc {after} told e =
+      let f : (m : Machines) → Stands t w m → StopsAs (give_up_def t c (m.client c).call) w c after told = λ m st. rw
       (st.calls c (inside 1 top_client c hc)) at e in
       record {
-        stands = λ m st. rw (f m st).area (call_put t w m ht.1 st c (inside 1 top_client c hc) _ (f m st).marks);
-        shows = λ m st. ex ∙ ap (λ (z : Answer). shown (result_by z [])) (f m st).result;
+        stands = λ m st. stopped_stands t w m ht.1 st c hc _ told (f m st).area;
+        shows = λ m st. ap (λ (z : Answer). shown (result_by z [])) (f m st).result;
       }

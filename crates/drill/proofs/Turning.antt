@@ -10,6 +10,10 @@ use borrow.Author.Tests.{eq-eqb, leb-true}
 use Rattle.cluster.specs.Config.{shelf}
 use Rattle.cluster.specs.Ranges.{within, top_client, top_faults, packet_room}
 use Rattle.cluster.proofs.Tests.{and_both}
+use Rattle.cluster.specs.Refusals.{number_told}
+use Rattle.cluster.specs.declared.Refusal.{Refusal}
+use Rattle.cluster.specs.declared.Refusal.TheVariants.{Server, Client}
+use Rattle.std.specs.Prelude.{Result, Err}
 use Rattle.protocol.specs.Primitives.{real}
 use Rattle.protocol.specs.Client.{of_write, make_refusal_def, refused}
 use Rattle.protocol.specs.ClientBytes.{awaited}
@@ -28,13 +32,13 @@ use Rattle.drill.proofs.Visiting.{inside}
 -- ---- a visit
 
 module _ (t : ℕ) (ht : (1 ≤ t) × (t ≤ top_faults)) (w : List ℕ) (c b : ℕ) where
-  pub refuses-4 : within 1 (shelf t).servers b ≡ false → RefusesAs t w c b 4
+  pub refuses-4 : within 1 (shelf t).servers b ≡ false → RefusesAs t w c b (Err Server)
   unfolding visit_refusal_def make_refusal_def drill_shelf shelf
   refuses-4 h =
       record { told = λ m st. rw (inside 1 top_faults t ht, h); readers = λ e. absurd (omega arith); servers = λ e. absurd (omega arith) }
 
   module _ (hb : (1 ≤ b) × (b ≤ (shelf t).servers)) where
-    pub refuses-5 : within 1 top_client c ≡ false → RefusesAs t w c b 5
+    pub refuses-5 : within 1 top_client c ≡ false → RefusesAs t w c b (Err Client)
     unfolding visit_refusal_def make_refusal_def drill_shelf shelf
     refuses-5 h =
         record {
@@ -46,7 +50,7 @@ module _ (t : ℕ) (ht : (1 ≤ t) × (t ≤ top_faults)) (w : List ℕ) (c b : 
         }
 
     -- as the packet
-    pub refuses_as : (hc : (1 ≤ c) × (c ≤ top_client)) {n : ℕ} → n ≡ make_refusal_def (shelf t) c b (awaited (call_in w c)) packet_room → RefusesAs t w c b n
+    pub refuses_as : (hc : (1 ≤ c) × (c ≤ top_client)) {r : Result (Unit {0}) Refusal} → number_told r ≡ make_refusal_def (shelf t) c b (awaited (call_in w c)) packet_room → RefusesAs t w c b r
     unfolding visit_refusal_def drill_shelf
     refuses_as hc e =
         record {
@@ -56,40 +60,38 @@ module _ (t : ℕ) (ht : (1 ≤ t) × (t ≤ top_faults)) (w : List ℕ) (c b : 
         }
 
 module _ (t : ℕ) (w : List ℕ) (c b : ℕ) where
-  pub visit-refused : (n : ℕ) {x : Shown} → RefusesAs t w c b n → (n ≡ 0 → ⊥) → x ≡ shown (refused n) → DoneIn t (λ m. visit_line_def (drill_shelf t) m c b)
-      w w x
+  pub visit-refused : (n : ℕ) → ((m : Machines) → Stands t w m → n ≡ visit_refusal_def (drill_shelf t) m c b) → (n ≡ 0 → ⊥)
+      → DoneIn t (λ m. visit_line_def (drill_shelf t) m c b) w w (shown (refused n))
   unfolding visit_line_def
-  visit-refused zero {x} r h ex = absurd (h refl)
-  visit-refused (suc n) {x} r h ex =
-      record { stands = λ m st. let q = sym (r.told m st) in rw q st; shows = λ m st. let q = sym (r.told m st) in rw q ex }
+  visit-refused zero r h = absurd (h refl)
+  visit-refused (suc n) r h = record { stands = λ m st. let q = sym (r m st) in rw q st; shows = λ m st. let q = sym (r m st) in rw q refl }
 
-  pub visit_passes : {n : ℕ} {x : Shown} {v : List ℕ} → RefusesAs t w c b n → n ≡ 0 → DoneIn t (λ m. visited (drill_shelf t) m c b) w v x
-      → DoneIn t (λ m. visit_line_def (drill_shelf t) m c b) w v x
+  pub visit_passes : {x : Shown} {v : List ℕ} → ((m : Machines) → Stands t w m → 0 ≡ visit_refusal_def (drill_shelf t) m c b)
+      → DoneIn t (λ m. visited (drill_shelf t) m c b) w v x → DoneIn t (λ m. visit_line_def (drill_shelf t) m c b) w v x
   unfolding visit_line_def
-  visit_passes {n} {x} {v} r e d =
+  visit_passes r d =
       record {
-        stands = λ m st. let q : visit_refusal_def (drill_shelf t) m c b ≡ 0 = sym (r.told m st) ∙ e in rw q (d.stands m st);
-        shows = λ m st. let q : visit_refusal_def (drill_shelf t) m c b ≡ 0 = sym (r.told m st) ∙ e in rw q (d.shows m st);
+        stands = λ m st. let q = sym (r m st) in rw q (d.stands m st);
+        shows = λ m st. let q = sym (r m st) in rw q (d.shows m st);
       }
 
 -- ---- a blanking
 
 module _ (t : ℕ) (w : List ℕ) (b : ℕ) where
-  pub blank-refused : {x : Shown} → within 1 (shelf t).servers b ≡ false → x ≡ shown (refused 4) → DoneIn t (λ m. blank_line_def (drill_shelf t) m b) w w x
+  pub blank-refused : within 1 (shelf t).servers b ≡ false → DoneIn t (λ m. blank_line_def (drill_shelf t) m b) w w (shown (refused 4))
   unfolding blank_line_def drill_shelf
-  blank-refused h ex = record { stands = λ m st. rw h st; shows = λ m st. rw h ex }
+  blank-refused h = record { stands = λ m st. rw h st; shows = λ m st. rw h refl }
 
-  pub blank_moves : {x : Shown} {v : List ℕ} → t ≤ top_faults → (1 ≤ b) × (b ≤ (shelf t).servers) → BlanksAs (blank_latest_def (memory_in w b)) w b v → x ≡
-      shown (result_of 0)
-      → DoneIn t (λ m. blank_line_def (drill_shelf t) m b) w v x
+  pub blank_moves : {v : List ℕ} → t ≤ top_faults → (1 ≤ b) × (b ≤ (shelf t).servers) → BlanksAs (blank_latest_def (memory_in w b)) w b v
+      → DoneIn t (λ m. blank_line_def (drill_shelf t) m b) w v (shown (result_of 0))
   unfolding blank_line_def drill_shelf
-  blank_moves {x} {v} ht hb e ex =
+  blank_moves {v} ht hb e =
       let k : within 1 (shelf t).servers b ≡ true = inside 1 (shelf t).servers b hb in
       let f : (m : Machines) → Stands t w m → BlanksAs (blank_latest_def (m.memory b)) w b v = λ m st. subst
       (λ (z : List ℕ). BlanksAs (blank_latest_def z) w b v) (st.memory b k) e in
       record {
         stands = λ m st. rw k (rw (f m st).area (server_put t w m ht st b k (blank_latest_def (m.memory b)).memory (f m st).size));
-        shows = λ m st. rw k ex;
+        shows = λ m st. rw k refl;
       }
 
 -- ---- the round

@@ -10,23 +10,27 @@ use lib.ListN.{length, take, get_or, replicate, length-map}
 use Rattle.std.proofs.lemmas.List.{ext_get_or}
 use Rattle.cluster.specs.Config.{up_to, shelf}
 use Rattle.cluster.specs.Ranges.{within, top_client, most_servers, key_size, packet_room, content_room, top_faults}
+use Rattle.std.specs.Prelude.{Result, Ok, Err}
+use Rattle.std.specs.Result.{result_unwrap_or}
+use Rattle.cluster.specs.Refusals.{outcome_told}
 use Rattle.cluster.specs.declared.Outcome.{Outcome}
+use Rattle.cluster.specs.declared.Refusal.{Refusal}
 use Rattle.cluster.proofs.Legal.{up_to-length, up_to_at}
 use Rattle.cluster.proofs.Tests.{within_in}
 use Rattle.erasure.proofs.Lists.{get_d_map}
 use Rattle.protocol.specs.declared.Taken.{Taken}
-use Rattle.protocol.specs.Answers.{taken_answer}
 use Rattle.protocol.specs.Primitives.{real}
 use Rattle.format.specs.Reading.{bytes_at}
 use Rattle.protocol.specs.ServerBytes.{Served, server_take}
 use Rattle.protocol.specs.ClientBytes.{Filled, Took, key_of, client_make, client_take}
+use Rattle.protocol.specs.Answers.{taken_told}
 use Rattle.runs.specs.Runs.{Shelf, Machines, Done, make, serve, take-reply, result_by, do_bytes, set_machine}
 use Rattle.client.proofs.StampBytes.{key_at}
 use Rattle.drill.specs.declared.shown.Shown.{Shown}
 use Rattle.drill.specs.Steps.{drill_shelf, lent_to, visited, shown}
 use Rattle.drill.specs.Area.{call_in, kept_in, memory_in, Stands, take_in_def, ServesAs, TakesAs}
 use Rattle.drill.specs.Moves.{DoneIn}
-use Rattle.drill.proofs.Standing.{client_put}
+use Rattle.drill.proofs.Standing.{left_stands}
 use Rattle.drill.proofs.Memories.{server_put, few-servers}
 
 -- ---- server b's key is bytes of b
@@ -59,6 +63,11 @@ make-stays s m c b o = refl
 part_take : (d : List ℕ) (n : ℕ) → bytes_at d 0 n ≡ take n d
 unfolding bytes_at
 part_take d n = refl
+
+-- what a refused step sends has no bytes
+pub counted : (told : Result ℕ Refusal) → result_unwrap_or told 0 ≡ (outcome_told told).count
+counted (Ok n) = refl
+counted (Err why) = refl
 
 module _ (t c b : ℕ) (w : List ℕ) (ht : t ≤ top_faults) (hc : (1 ≤ c) × (c ≤ top_client)) (hb : (1 ≤ b) × (b ≤ (shelf t).servers)) where
   module _ (m : Machines) (st : Stands t w m) where
@@ -96,7 +105,7 @@ module _ (t c b : ℕ) (w : List ℕ) (ht : t ≤ top_faults) (hc : (1 ≤ c) ×
           let f : ServesAs served w b w₁ q r = subst (λ (z : Served). ServesAs z w b w₁ q r) same-served e in
           part_take q r.count ∙ rw (f.result, f.written)
 
-    module _ {o : List ℕ} {w₁ : List ℕ} {a : Taken} (reply : List ℕ)
+    module _ {o : List ℕ} {w₁ : List ℕ} {a : Result Taken Refusal} (reply : List ℕ)
         (e : TakesAs (take_in_def t w c reply (replicate content_room 0)) w c w₁ o a) where
       took : Took
       took =
@@ -111,9 +120,9 @@ module _ (t c b : ℕ) (w : List ℕ) (ht : t ≤ top_faults) (hc : (1 ≤ c) ×
       unfolding do_bytes set_machine took drill_shelf
       take-stands =
           let f : TakesAs took w c w₁ o a = subst (λ (z : Took). TakesAs z w c w₁ o a) same-took e in
-          rw f.area (client_put t w m ht st c hc took.call took.kept f.marks f.size)
+          left_stands t w m ht st c hc took.call a took.kept f.area f.size
 
-      pub take-shows : result_by (taken_answer a) o
+      pub take-shows : result_by (taken_told a) o
           ≡ (do_bytes real (drill_shelf t) m (take-reply c (lent_to (drill_shelf t) c) reply (replicate content_room 0))).result
       unfolding do_bytes set_machine took drill_shelf
       take-shows =
@@ -121,14 +130,14 @@ module _ (t c b : ℕ) (w : List ℕ) (ht : t ≤ top_faults) (hc : (1 ≤ c) ×
           rw (f.result, f.written)
 
 module _ (t c b : ℕ) (w : List ℕ) (ht : t ≤ top_faults) (hc : (1 ≤ c) × (c ≤ top_client)) (hb : (1 ≤ b) × (b ≤ (shelf t).servers)) where
-  visit_goes : {r₁ r₂ : Outcome} {p q o w₁ w₂ p' q' : List ℕ} {a : Taken} → record { result = r₁; output = p } ≡ client_make t c b (call_in w c)
+  visit_goes : {r₁ r₂ : Outcome} {p q o w₁ w₂ p' q' : List ℕ} {a : Result Taken Refusal} → record { result = r₁; output = p } ≡ client_make t c b (call_in w c)
       (kept_in w c) (replicate packet_room 0)
       → p' ≡ bytes_at p 0 r₁.count
       → ServesAs (server_take real (memory_in w b) (replicate key_size b) p' (replicate packet_room 0)) w b w₁ q r₂
       → q' ≡ bytes_at q 0 r₂.count
       → TakesAs (take_in_def t w₁ c q' (replicate content_room 0)) w₁ c w₂ o a
       → (m : Machines) → Stands t w m → (Stands t w₂ (visited (drill_shelf t) m c b).machines)
-      × (result_by (taken_answer a) o ≡ (visited (drill_shelf t) m c b).result)
+      × (result_by (taken_told a) o ≡ (visited (drill_shelf t) m c b).result)
   unfolding visited
   visit_goes {r₁} {r₂} {p} {q} {o} {w₁} {w₂} {p'} {q'} {a} e₁ ep e₂ eq e₃ m st =
       let s = drill_shelf t in
@@ -144,12 +153,12 @@ module _ (t c b : ℕ) (w : List ℕ) (ht : t ≤ top_faults) (hc : (1 ≤ c) ×
       let k : d₁.machines ≡ m = make-stays s m c b (replicate packet_room 0) in
       rw k (take-stands t c b w₁ ht hc hb d₂.machines st₂ d₂.sent f₃, take-shows t c b w₁ ht hc hb d₂.machines st₂ d₂.sent f₃)
 
-  pub visit-done : {r₁ r₂ : Outcome} {p q o w₁ w₂ p' q' : List ℕ} {a : Taken} {x : Shown}
+  pub visit-done : {r₁ r₂ : Outcome} {p q o w₁ w₂ p' q' : List ℕ} {a : Result Taken Refusal} {x : Shown}
       → record { result = r₁; output = p } ≡ client_make t c b (call_in w c) (kept_in w c) (replicate packet_room 0)
       → p' ≡ bytes_at p 0 r₁.count
       → ServesAs (server_take real (memory_in w b) (replicate key_size b) p' (replicate packet_room 0)) w b w₁ q r₂
       → q' ≡ bytes_at q 0 r₂.count
       → TakesAs (take_in_def t w₁ c q' (replicate content_room 0)) w₁ c w₂ o a
-      → x ≡ shown (result_by (taken_answer a) o) → DoneIn t (λ m. visited (drill_shelf t) m c b) w w₂ x
+      → x ≡ shown (result_by (taken_told a) o) → DoneIn t (λ m. visited (drill_shelf t) m c b) w w₂ x
   visit-done e₁ ep e₂ eq e₃ ex =
       record { stands = λ m st. (visit_goes e₁ ep e₂ eq e₃ m st).0; shows = λ m st. ex ∙ ap shown (visit_goes e₁ ep e₂ eq e₃ m st).1 }

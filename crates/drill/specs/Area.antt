@@ -1,18 +1,20 @@
 -- What private functions promise each other; no public contract names these.
 -- Where a drill keeps its parties in the work area: the servers' memories one after another, and from 1,048,576 on a slot for each client.
-use Rattle.std.specs.Prelude.{◌≡◌, true, List, ℕ, ◌+◌, ◌-◌, ◌*◌, length}
+use Rattle.std.specs.Prelude.{◌≡◌, true, List, ℕ, ◌+◌, ◌-◌, ◌*◌, length, Result, Ok, Err}
 use Rattle.cluster.specs.Config.{shelf}
 use Rattle.cluster.specs.Ranges.{within, top_client, most_servers, memory_size}
+use Rattle.cluster.specs.Refusals.{number_told}
+use Rattle.cluster.specs.declared.Refusal.{Refusal}
 use Rattle.protocol.specs.declared.Call.{Call}
 use Rattle.cluster.specs.declared.Outcome.{Outcome}
 use Rattle.protocol.specs.declared.Aborted.{Aborted}
 use Rattle.protocol.specs.declared.Taken.{Taken}
-use Rattle.protocol.specs.Answers.{taken_answer, aborted_answer}
 use Rattle.protocol.specs.Primitives.{real}
 use Rattle.protocol.specs.ServerBytes.{Served, Blanked}
 use Rattle.protocol.specs.View.{kept_size}
 use Rattle.format.specs.Reading.{bytes_at, put}
 use Rattle.protocol.specs.ClientBytes.{Begun, GaveUp, Took, begin_write_def, begin_read_def, give_up_def, client_take}
+use Rattle.protocol.specs.Answers.{taken_told, aborted_told}
 use Rattle.runs.specs.Runs.{Machines}
 use Rattle.state.specs.State.{state_size, kept_place, call_at, call_bytes}
 use Rattle.drill.specs.Listing.{work_size}
@@ -75,12 +77,16 @@ take_in_def t w c reply output =
     let l = lent_to (drill_shelf t) c in
     client_take real t c l.writers l.keys (call_in w c) (kept_in w c) reply output
 
--- a beginning in the area w: its refusal or 0, and the area after it
-pub record BeginsAs (b : Begun) (w : List ℕ) (c : ℕ) (after : List ℕ) (number : ℕ) : Type 0 where
-  pub result : number ≡ b.result.number
-  pub area : after ≡ put_client w c b.call b.kept
+-- the area after a client's step: its small state and the bytes that it keeps, at their places; a refused step leaves the small state as it is
+abbrev pub LeftAs : {A : Type 0} → Result A Refusal → List ℕ → ℕ → List ℕ → Call → List ℕ → Type 0
+LeftAs (Ok a) w c after call kept = (after ≡ put_client w c call kept) × (length call.tally.marks ≡ most_servers)
+LeftAs (Err why) w c after call kept = (after ≡ put w (kept_at c) kept) × (call ≡ call_in w c)
+
+-- a beginning in the area w: what it answers, and the area after it
+pub record BeginsAs (b : Begun) (w : List ℕ) (c : ℕ) (after : List ℕ) (told : Result (Unit {0}) Refusal) : Type 0 where
+  pub result : number_told told ≡ b.result.number
+  pub area : LeftAs told w c after b.call b.kept
   pub size : length b.kept ≡ kept_size
-  pub marks : length b.call.tally.marks ≡ most_servers
 
 -- a packet taken by server b in the area w: its outcome, the area and the output after it
 pub record ServesAs (d : Served) (w : List ℕ) (b : ℕ) (after output : List ℕ) (outcome : Outcome) : Type 0 where
@@ -95,15 +101,18 @@ pub record BlanksAs (d : Blanked) (w : List ℕ) (b : ℕ) (after : List ℕ) : 
   pub size : length d.memory ≡ memory_size
 
 -- a reply taken in the area w: its answer, the area and the output after it
-pub record TakesAs (d : Took) (w : List ℕ) (c : ℕ) (after output : List ℕ) (answer : Taken) : Type 0 where
-  pub result : taken_answer answer ≡ d.answer
-  pub area : after ≡ put_client w c d.call d.kept
+pub record TakesAs (d : Took) (w : List ℕ) (c : ℕ) (after output : List ℕ) (told : Result Taken Refusal) : Type 0 where
+  pub result : taken_told told ≡ d.answer
+  pub area : LeftAs told w c after d.call d.kept
   pub written : output ≡ d.output
   pub size : length d.kept ≡ kept_size
-  pub marks : length d.call.tally.marks ≡ most_servers
+
+-- the area after giving up, which is refused or changes the small state alone
+abbrev pub StoppedAs : {A : Type 0} → Result A Refusal → List ℕ → ℕ → List ℕ → Call → Type 0
+StoppedAs (Ok a) w c after call = (after ≡ put_call_def w c call) × (length call.tally.marks ≡ most_servers)
+StoppedAs (Err why) w c after call = (after ≡ w) × (call ≡ call_in w c)
 
 -- giving up in the area w: its answer, and the area after it
-pub record StopsAs (g : GaveUp) (w : List ℕ) (c : ℕ) (after : List ℕ) (answer : Aborted) : Type 0 where
-  pub result : aborted_answer answer ≡ g.answer
-  pub area : after ≡ put_call_def w c g.call
-  pub marks : length g.call.tally.marks ≡ most_servers
+pub record StopsAs (g : GaveUp) (w : List ℕ) (c : ℕ) (after : List ℕ) (told : Result Aborted Refusal) : Type 0 where
+  pub result : aborted_told told ≡ g.answer
+  pub area : StoppedAs told w c after g.call

@@ -1,8 +1,10 @@
 -- What private functions promise each other; no public contract names these.
 -- Steps done in the work area: whatever the parties hold, the area holds what they hold after the step, and what is shown is the step's.
-use Rattle.std.specs.Prelude.{◌≡◌, List, ℕ, ◌≤◌, length}
+use Rattle.std.specs.Prelude.{◌≡◌, List, ℕ, ◌≤◌, length, Result}
 use Rattle.cluster.specs.Config.{shelf}
 use Rattle.cluster.specs.Ranges.{top_client}
+use Rattle.cluster.specs.Refusals.{number_told}
+use Rattle.cluster.specs.declared.Refusal.{Refusal}
 use Rattle.columns.specs.Lines.{Text}
 use Rattle.format.specs.Reading.{over, put}
 use Rattle.runs.specs.Runs.{Machines, Done}
@@ -21,11 +23,11 @@ pub record StepsIn (t : ℕ) (f : Machines → Stepped) (w after : List ℕ) (r 
   pub shows : (m : Machines) → Stands t w m → r ≡ shown (f m).result
   pub counts : (m : Machines) → Stands t w m → begun ≡ (f m).state.begun
 
--- the refusal of a visit before anything acts, or 0, and then the parties are in their ranges
-pub record RefusesAs (t : ℕ) (w : List ℕ) (client server number : ℕ) : Type 0 where
-  pub told : (m : Machines) → Stands t w m → number ≡ visit_refusal_def (drill_shelf t) m client server
-  pub readers : number ≡ 0 → (1 ≤ client) × (client ≤ top_client)
-  pub servers : number ≡ 0 → (1 ≤ server) × (server ≤ (shelf t).servers)
+-- what refuses a visit before anything acts; where nothing does, the parties are in their ranges
+pub record RefusesAs (t : ℕ) (w : List ℕ) (client server : ℕ) (why : Result (Unit {0}) Refusal) : Type 0 where
+  pub told : (m : Machines) → Stands t w m → number_told why ≡ visit_refusal_def (drill_shelf t) m client server
+  pub readers : number_told why ≡ 0 → (1 ≤ client) × (client ≤ top_client)
+  pub servers : number_told why ≡ 0 → (1 ≤ server) × (server ≤ (shelf t).servers)
 
 -- the round that a row shows
 pub record RoundIn (w : List ℕ) (client round : ℕ) : Type 0 where

@@ -5,6 +5,8 @@ ghost use Rattle.protocol.specs.View.{kept_size};
 ghost use Rattle.drill.specs.Listing.{work_size};
 ghost use Rattle.drill.specs.Area.{client_slot, client_at_def, kept_at, call_in, kept_in, put_call_def, write_in_def, read_in_def, give_up_in_def, BeginsAs, StopsAs};
 
+use cluster::Refusal;
+
 // Bytes of the work area, the place of the clients, and the bytes of a client's slot.
 pub(crate) const WORK: usize = 2097152;
 
@@ -49,8 +51,7 @@ pub(crate) fn put_call(work: &mut [u8], client: usize, call: protocol::Call)
     ensures { (work.new ≡ put_call_def work.old client call) × (length call.tally.marks ≡ most_servers) }
 {
     let a = client_at(client);
-    let e = a + state::KEPT_PLACE;
-    state::put(&mut work[a..e], call);
+    state::put(&mut work[a..a + state::KEPT_PLACE], call);
 }
 
 // A write begins.
@@ -60,46 +61,50 @@ pub(crate) fn begin_write(
     client: usize,
     content: &[u8],
     nonce: &[u8; cluster::KEY],
-) -> u8
+) -> Result<(), Refusal>
     requires { ((1 ≤ client) × (client ≤ top_client)) × (length work.old ≡ work_size) }
     ensures { BeginsAs (write_in_def t work.old client content.now nonce.now) work.old client
         work.new result }
 {
     let call = call_of(work, client);
     let a = kept_at(client);
-    let e = a + wire::kept::KEPT;
-    let s = client::begin::begin_write_in(
+    let call = client::begin::begin_write_in(
         call,
-        &mut work[a..e],
+        &mut work[a..a + wire::kept::KEPT],
         client::Party { t, client },
         content,
         nonce,
-    );
-    put_call(work, client, s.call);
-    let outcome = s.outcome;
-    outcome.number
+    )?;
+    put_call(work, client, call);
+    Ok(())
 }
 
 // A read begins.
-pub(crate) fn begin_read(work: &mut [u8], t: usize, client: usize) -> u8
+pub(crate) fn begin_read(work: &mut [u8], t: usize, client: usize) -> Result<(), Refusal>
     requires { ((1 ≤ client) × (client ≤ top_client)) × (length work.old ≡ work_size) }
     ensures { BeginsAs (read_in_def t work.old client) work.old client work.new result }
 {
     let call = call_of(work, client);
     let a = kept_at(client);
-    let e = a + wire::kept::KEPT;
-    let s = client::begin::begin_read_in(call, &mut work[a..e], client::Party { t, client });
-    put_call(work, client, s.call);
-    let outcome = s.outcome;
-    outcome.number
+    let call = client::begin::begin_read_in(
+        call,
+        &mut work[a..a + wire::kept::KEPT],
+        client::Party { t, client },
+    )?;
+    put_call(work, client, call);
+    Ok(())
 }
 
 // The call is given up.
-pub(crate) fn give_up(work: &mut [u8], t: usize, client: usize) -> protocol::Aborted
+pub(crate) fn give_up(
+    work: &mut [u8],
+    t: usize,
+    client: usize,
+) -> Result<protocol::Aborted, Refusal>
     requires { ((1 ≤ client) × (client ≤ top_client)) × (length work.old ≡ work_size) }
     ensures { StopsAs (give_up_in_def t work.old client) work.old client work.new result }
 {
-    let s = client::begin::give_up_in(call_of(work, client), client::Party { t, client });
-    put_call(work, client, s.call);
-    s.answer
+    let stopped = client::begin::give_up_in(call_of(work, client), client::Party { t, client })?;
+    put_call(work, client, stopped.call);
+    Ok(stopped.answer)
 }

@@ -2,6 +2,7 @@
 #![tactic(auto)]
 
 ghost use Rattle.std.specs.Prelude.{◌≡◌};
+ghost use Rattle.cluster.specs.Refusals.{outcome_told};
 ghost use Rattle.drill.specs.Listing.{rows_for_def, drill_of};
 
 mod verbs; // the verbs by name
@@ -15,6 +16,8 @@ mod run; // a sheet is run
 mod steps; // one line's step
 mod shown; // what a row shows of a step
 
+use cluster::Refusal;
+
 // Bytes of the work area.
 pub const WORK: usize = area::WORK;
 
@@ -26,21 +29,18 @@ fn rows_for(lines: usize) -> usize
 }
 
 // Runs a sheet and prints its listing at the start of the output. The work area is cleared first, and left all 00h.
-pub fn drill(sheet: &[u8], out: &mut [u8], work: &mut [u8]) -> cluster::Outcome
-    ensures { record { result = result; output = out.new; work = work.new }
+pub fn drill(sheet: &[u8], out: &mut [u8], work: &mut [u8]) -> Result<usize, Refusal>
+    ensures { record { result = outcome_told result; output = out.new; work = work.new }
         ≡ drill_of sheet.now out.old work.old }
 {
     if work.len() != WORK {
-        return cluster::refused(cluster::refusals::MEMORY_SIZE);
+        return Err(Refusal::MemorySize);
     }
     if out.len() / rows::ROW < rows_for(columns::lines::count_lines(sheet)) {
-        return cluster::refused(cluster::refusals::ROOM);
+        return Err(Refusal::Room);
     }
     server::blank::clear(work);
     let n = run::list(sheet, out, work);
     server::blank::clear(work);
-    cluster::Outcome {
-        number: 0,
-        count: n,
-    }
+    Ok(n)
 }

@@ -1,8 +1,8 @@
 // Which lines of a sheet have the form of the first one, and which that of a step.
 ghost use Rattle.std.specs.Prelude.{◌≡◌};
 ghost use Rattle.columns.specs.Lines.{line_at};
+ghost use Rattle.columns.specs.Reads.{told};
 ghost use Rattle.drill.specs.Sheet.{is_first_def, is_step_def, is_write_def, is_alone_def, is_blanking_def, no_content_def, first_line_def, step_line_def};
-ghost use Rattle.drill.specs.Reads.{line_of};
 
 use crate::sheet::{Line, line_at};
 use crate::verbs::Verb;
@@ -57,7 +57,7 @@ fn is_step(l: Line) -> bool
 }
 
 pub(crate) fn first_line(sheet: &[u8]) -> Option<Line>
-    ensures { line_of result ≡ first_line_def (line_at sheet.now 0) }
+    ensures { told result ≡ first_line_def (line_at sheet.now 0) }
 {
     let l = line_at(sheet, 0)?;
     is_first(l).then_some(l)
@@ -65,7 +65,7 @@ pub(crate) fn first_line(sheet: &[u8]) -> Option<Line>
 
 // Line n of the sheet, after the first.
 pub(crate) fn step_line(sheet: &[u8], at: usize, n: u32) -> Option<Line>
-    ensures { line_of result ≡ step_line_def n (line_at sheet.now at) }
+    ensures { told result ≡ step_line_def n (line_at sheet.now at) }
 {
     if cluster::TOP_NUMBER <= n as usize {
         return None;

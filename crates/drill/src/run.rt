@@ -9,13 +9,10 @@ ghost use Rattle.drill.specs.Area.{Stands};
 ghost use Rattle.drill.specs.Moves.{RowIn, RowsAs};
 
 use crate::lines::{first_line, step_line};
+use crate::rows::{ROW, put_last, put_step};
 use crate::sheet::Line;
+use cluster::Refusal;
 use columns::lines::next_line;
-
-// The results of a line that ends the run: its form is another, or only its t is wrong.
-const BAD_LINE: u32 = (protocol::REFUSALS + cluster::refusals::LINE as u16) as u32;
-
-const BAD_FAULTS: u32 = (protocol::REFUSALS + cluster::refusals::FAULTS as u16) as u32;
 
 // Every server of the shelf is made blank.
 pub(crate) fn blank_servers(work: &mut [u8], t: usize)
@@ -27,27 +24,19 @@ pub(crate) fn blank_servers(work: &mut [u8], t: usize)
     }
 }
 
-// The step of line n and its row, at a place of the output. Answers how many writes have begun.
-fn one_line(
-    out: &mut [u8],
-    work: &mut [u8],
-    t: usize,
-    at: usize,
-    n: u32,
-    begun: u32,
-    l: Line,
-) -> u32
-    requires { ((((1 ≤ t) × (t ≤ top_faults)) × (length work.old ≡ work_size)) × (begun < top_number))
+// The step of line n and its row, at a place of the output. It counts a write that begins.
+fn one_line(out: &mut [u8], work: &mut [u8], t: usize, at: usize, n: u32, begun: &mut u32, l: Line)
+    requires { ((((1 ≤ t) × (t ≤ top_faults)) × (length work.old ≡ work_size)) × (begun.old < top_number))
         × ((is_step_def l ≡ true) × (at + row_size ≤ length out.old)) }
-    ensures { RowIn t begun n l work.old work.new out.old at out.new result }
+    ensures { RowIn t begun.old n l work.old work.new out.old at out.new begun.new }
 {
-    let s = crate::steps::step(work, t, begun, l);
+    let shown = crate::steps::step(work, t, begun, l);
     let round = crate::steps::round_of(work, l.client as usize);
-    crate::rows::put_step(out, at, n, l, round, s.shown);
-    s.begun
+    put_step(out, at, n, l, round, shown);
 }
 
-// The rows of the lines from a place on, after the first line. Answers how many bytes they have.
+// The rows of the lines from a place on, after the first line. Answers how many bytes they have. The next place is found behind each line, so no
+// range counts the turns.
 pub(crate) fn rows_from(
     sheet: &[u8],
     out: &mut [u8],
@@ -65,13 +54,13 @@ pub(crate) fn rows_from(
     let mut done = 0;
     while at < sheet.len() {
         let Some(l) = step_line(sheet, at, n) else {
-            crate::rows::put_last(out, done, n, BAD_LINE);
-            return done + crate::rows::ROW;
+            put_last(out, done, n, Refusal::Line);
+            return done + ROW;
         };
-        begun = one_line(out, work, t, done, n, begun, l);
+        one_line(out, work, t, done, n, &mut begun, l);
         at = next_line(sheet, at);
         n += 1;
-        done += crate::rows::ROW;
+        done += ROW;
     }
     done
 }
@@ -86,13 +75,13 @@ pub(crate) fn list(sheet: &[u8], out: &mut [u8], work: &mut [u8]) -> usize
         return 0;
     }
     let Some(l) = first_line(sheet) else {
-        crate::rows::put_last(out, 0, 1, BAD_LINE);
-        return crate::rows::ROW;
+        put_last(out, 0, 1, Refusal::Line);
+        return ROW;
     };
     let t = l.client as usize;
     if cluster::outside(1, cluster::TOP_FAULTS, t) {
-        crate::rows::put_last(out, 0, 1, BAD_FAULTS);
-        return crate::rows::ROW;
+        put_last(out, 0, 1, Refusal::Faults);
+        return ROW;
     }
     blank_servers(work, t);
     rows_from(sheet, out, work, t, next_line(sheet, 0))

@@ -1,15 +1,17 @@
 // The steps of servers in the work area.
 ghost use Rattle.std.specs.Prelude.{◌≡◌, ◌+◌, ◌≤◌, length, replicate};
 ghost use Rattle.cluster.specs.Ranges.{most_servers, memory_size, key_size, top_faults};
+ghost use Rattle.cluster.specs.Refusals.{number_told, outcome_told};
 ghost use Rattle.protocol.specs.Primitives.{real};
 ghost use Rattle.protocol.specs.ServerBytes.{server_take, blank_step};
+ghost use Rattle.runs.specs.Runs.{result_of};
 ghost use Rattle.server.specs.Blank.{blank_latest_def};
 ghost use Rattle.drill.specs.Listing.{work_size};
-ghost use Rattle.drill.specs.Steps.{drill_shelf, blank_line_def};
+ghost use Rattle.drill.specs.Steps.{drill_shelf, blank_line_def, shown};
 ghost use Rattle.drill.specs.Moves.{DoneIn};
 ghost use Rattle.drill.specs.Area.{server_at_def, clients_at, memory_in, ServesAs, BlanksAs};
 
-use crate::shown::Shown;
+use cluster::Refusal;
 
 // The place of a server's memory.
 fn server_at(server: usize) -> usize
@@ -25,15 +27,14 @@ pub(crate) fn serve(
     server: usize,
     packet: &[u8],
     out: &mut [u8],
-) -> cluster::Outcome
+) -> Result<usize, Refusal>
     requires { ((1 ≤ server) × (server ≤ most_servers)) × (length work.old ≡ work_size) }
     ensures { ServesAs (server_take real (memory_in work.old server) (replicate key_size server) packet.now
-        out.old) work.old server work.new out.new result }
+        out.old) work.old server work.new out.new (outcome_told result) }
 {
     let a = server_at(server);
-    let e = a + cluster::MEMORY;
     let key = [server as u8; cluster::KEY];
-    server::take::take(&mut work[a..e], &key, packet, out)
+    server::take::take(&mut work[a..a + cluster::MEMORY], &key, packet, out)
 }
 
 // A server's latest candidate becomes blank.
@@ -42,8 +43,7 @@ pub(crate) fn blank_latest(work: &mut [u8], server: usize)
     ensures { BlanksAs (blank_latest_def (memory_in work.old server)) work.old server work.new }
 {
     let a = server_at(server);
-    let e = a + cluster::MEMORY;
-    let _ = server::blank::blank_latest(&mut work[a..e]);
+    let _ = server::blank::blank_latest(&mut work[a..a + cluster::MEMORY]);
 }
 
 // A server is made blank.
@@ -52,18 +52,18 @@ pub(crate) fn blank(work: &mut [u8], t: usize, server: usize)
     ensures { BlanksAs (blank_step (memory_in work.old server) t server) work.old server work.new }
 {
     let a = server_at(server);
-    let e = a + cluster::MEMORY;
-    let _ = server::blank::blank(&mut work[a..e], t, server);
+    let _ = server::blank::blank(&mut work[a..a + cluster::MEMORY], t, server);
 }
 
-// Verb 4.
-pub(crate) fn blank_line(work: &mut [u8], t: usize, server: usize) -> Shown
+// A server's latest candidate becomes blank, by a line of the sheet.
+pub(crate) fn blank_line(work: &mut [u8], t: usize, server: usize) -> Result<(), Refusal>
     requires { ((1 ≤ t) × (t ≤ top_faults)) × (length work.old ≡ work_size) }
-    ensures { DoneIn t (λ m. blank_line_def (drill_shelf t) m server) work.old work.new result }
+    ensures { DoneIn t (λ m. blank_line_def (drill_shelf t) m server) work.old work.new
+        (shown (result_of (number_told result))) }
 {
     if cluster::outside(1, cluster::servers(t as u8), server) {
-        return crate::shown::refused(cluster::refusals::SERVER);
+        return Err(Refusal::Server);
     }
     blank_latest(work, server);
-    crate::shown::begun(0)
+    Ok(())
 }

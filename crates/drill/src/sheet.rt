@@ -1,8 +1,8 @@
 // The numbers of a sheet's line.
 ghost use Rattle.std.specs.Prelude.{◌≡◌};
 ghost use Rattle.columns.specs.Lines.{line_at};
+ghost use Rattle.columns.specs.Reads.{told};
 ghost use Rattle.drill.specs.Sheet.{read_line_def};
-ghost use Rattle.drill.specs.Reads.{line_of};
 
 // The five numbers of a line. Document 01 says box for server.
 #[derive(Clone, Copy)]
@@ -18,13 +18,11 @@ const FIELDS: usize = 5;
 
 // The line at a place, whatever its verb.
 pub(crate) fn line_at(sheet: &[u8], at: usize) -> Option<Line>
-    ensures { line_of result ≡ read_line_def (line_at sheet.now at) }
+    ensures { told result ≡ read_line_def (line_at sheet.now at) }
 {
-    let mut v = [0; FIELDS];
-    if !columns::reading::read_line(sheet, at, &mut v) {
-        return None;
-    }
-    let [verb, client, server, length, fill] = v;
+    let [verb, client, server, length, fill]: [u32; FIELDS] = columns::reading::read_line(
+        sheet, at,
+    )?;
     Some(Line {
         verb,
         client,

@@ -1,10 +1,14 @@
 // What a row shows of a step: its answer, in document 01's numbers.
 ghost use Rattle.std.specs.Prelude.{◌≡◌, [], ◌≤◌, length};
 ghost use Rattle.cluster.specs.Ranges.{content_room};
-ghost use Rattle.protocol.specs.Answers.{taken_answer, aborted_answer};
+ghost use Rattle.cluster.specs.Refusals.{refusal_number, number_told};
+ghost use Rattle.protocol.specs.Answers.{taken_told, aborted_told};
 ghost use Rattle.protocol.specs.Client.{refused};
 ghost use Rattle.runs.specs.Runs.{result_of, result_by};
 ghost use Rattle.drill.specs.Steps.{shown_as, shown};
+
+use cluster::Refusal;
+use protocol::{Aborted, Answer, Taken};
 
 // Result, stamp number, length, first byte.
 #[derive(Clone, Copy)]
@@ -16,52 +20,47 @@ pub struct Shown {
 }
 
 // An answer without a content.
-fn plain(a: protocol::Answer) -> Shown
+fn plain(a: Answer) -> Shown
     ensures { result ≡ shown_as a [] }
 {
     Shown {
-        result: a.result as u32,
+        result: u32::from(a.result),
         stamp: a.number,
         length: 0,
         first: 0,
     }
 }
 
-pub(crate) fn refused(number: u8) -> Shown
-    ensures { result ≡ shown (refused number) }
+pub(crate) fn refused(refusal: Refusal) -> Shown
+    ensures { result ≡ shown (refused (refusal_number refusal)) }
 {
-    let a = protocol::Taken::Refused(number);
-    plain(a.answer())
+    plain(Answer::from(refusal))
 }
 
-// 0 goes on, another number is a refusal's.
-pub(crate) fn begun(number: u8) -> Shown
-    ensures { result ≡ shown (result_of number) }
+// A call that has begun goes on.
+pub(crate) fn begun(told: Result<(), Refusal>) -> Shown
+    ensures { result ≡ shown (result_of (number_told told)) }
 {
-    if number == 0 {
-        let a = protocol::Taken::More;
-        return plain(a.answer());
-    }
-    refused(number)
+    plain(Answer::from(told.map(|_| Taken::More)))
 }
 
-pub(crate) fn given_up(a: protocol::Aborted) -> Shown
-    ensures { result ≡ shown (result_by (aborted_answer a) []) }
+pub(crate) fn given_up(told: Result<Aborted, Refusal>) -> Shown
+    ensures { result ≡ shown (result_by (aborted_told told) []) }
 {
-    plain(a.answer())
+    plain(Answer::from(told))
 }
 
 // A content is read from the output.
-pub(crate) fn taken(t: protocol::Taken, out: &[u8]) -> Shown
+pub(crate) fn taken(told: Result<Taken, Refusal>, out: &[u8]) -> Shown
     requires { length out.now ≤ content_room }
-    ensures { result ≡ shown (result_by (taken_answer t) out.now) }
+    ensures { result ≡ shown (result_by (taken_told told) out.now) }
 {
-    let a = t.answer();
-    let content = wire::bytes::part(out, 0, a.length as usize);
+    let a = Answer::from(told);
+    let content = wire::bytes::part(out, 0, usize::from(a.length));
     Shown {
-        result: a.result as u32,
+        result: u32::from(a.result),
         stamp: a.number,
         length: content.len() as u32,
-        first: wire::bytes::byte_at(content, 0) as u32,
+        first: u32::from(wire::bytes::byte_at(content, 0)),
     }
 }

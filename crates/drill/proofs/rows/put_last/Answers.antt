@@ -6,4 +6,4 @@ use Rattle.drill.proofs.rows.put_last.Goals as goal
 
 pub returns : goal.returns
 unfolding last_row
-returns c = row_put c.args.out.now c.args.at _ refl c.requires c.put_row.ensures
+returns c = row_put c.args.out.now c.args.at _ refl c.requires (rw (c.from-result.ensures, c.from.ensures) at c.put_row.ensures)

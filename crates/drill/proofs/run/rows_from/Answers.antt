@@ -13,8 +13,8 @@ put_last-requires c = row_room _ _ _ _ _ _ _ _ _ _ c.loop-at.invariant c.loop-at
 pub returns-in_default : goal.returns-in_default
 returns-in_default c = going_last _ _ _ _ _ _ _ _ _ _ c.loop-at.invariant c.loop-at-test.true (sym c.in_default.ensures) c.put_last.ensures
 
-pub one_line-begun-requires : goal.one_line-begun-requires
-one_line-begun-requires c =
+pub one_line-requires : goal.one_line-requires
+one_line-requires c =
     let h = line-number _ _ _ (sym c.in-Some.ensures) in (
       ((c.requires.0.0, c.loop-at.invariant.stands.size), omega arith),
       (line_form _ _ _ (sym c.in-Some.ensures), row_room _ _ _ _ _ _ _ _ _ _ c.loop-at.invariant c.loop-at-test.true),
@@ -25,7 +25,7 @@ loop-at-smaller c = let h = next-later _ _ c.loop-at-test.true in omega arith
 
 pub loop-at-preserved : goal.loop-at-preserved
 loop-at-preserved c =
-    rw c.next_line-at.ensures (going_more _ _ _ _ _ _ _ _ _ _ c.loop-at.invariant c.loop-at-test.true (sym c.in-Some.ensures) c.one_line-begun.ensures)
+    rw c.next_line-at.ensures (going_more _ _ _ _ _ _ _ _ _ _ c.loop-at.invariant c.loop-at-test.true (sym c.in-Some.ensures) c.one_line.ensures)
 
 pub returns : goal.returns
 returns c = going_all _ _ _ _ _ _ _ _ _ _ c.loop-at.invariant (omega arith)

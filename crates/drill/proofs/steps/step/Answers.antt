@@ -22,16 +22,16 @@ unreachable-requires c =
     omega arith
 
 pub returns-in-Write : goal.returns-in-Write
-returns-in-Write c = let e : c.args.l.verb ≡ 1 = rw c.in-Write.ensures at c.of.ensures in step_write _ _ _ _ _ e c.write.ensures
+returns-in-Write c = let e : c.args.l.verb ≡ 1 = rw c.in-Write.ensures at c.of.ensures in rw c.begun.ensures (step_write _ _ _ _ _ e c.write.ensures)
 
 pub returns-in-Read : goal.returns-in-Read
-returns-in-Read c = let e : c.args.l.verb ≡ 2 = rw c.in-Read.ensures at c.of.ensures in step_read _ _ _ _ _ e c.read-shown.ensures
+returns-in-Read c = let e : c.args.l.verb ≡ 2 = rw c.in-Read.ensures at c.of.ensures in rw c.begun-in-Read.ensures (step_read _ _ _ _ _ e c.read.ensures)
 
 pub returns-in-Visit : goal.returns-in-Visit
-returns-in-Visit c = let e : c.args.l.verb ≡ 3 = rw c.in-Visit.ensures at c.of.ensures in step-visit _ _ _ _ _ e c.visit_line-shown.ensures
+returns-in-Visit c = let e : c.args.l.verb ≡ 3 = rw c.in-Visit.ensures at c.of.ensures in step-visit _ _ _ _ _ e c.visit_line.ensures
 
 pub returns-in-Unlatest : goal.returns-in-Unlatest
-returns-in-Unlatest c = let e : c.args.l.verb ≡ 4 = rw c.in-Unlatest.ensures at c.of.ensures in step-blank _ _ _ _ _ e c.blank_line-shown.ensures
+returns-in-Unlatest c = let e : c.args.l.verb ≡ 4 = rw c.in-Unlatest.ensures at c.of.ensures in rw c.begun-in-Unlatest.ensures (step-blank _ _ _ _ _ e c.blank_line.ensures)
 
 pub returns-in-Stop : goal.returns-in-Stop
-returns-in-Stop c = let e : c.args.l.verb ≡ 5 = rw c.in-Stop.ensures at c.of.ensures in step-stop _ _ _ _ _ e c.stop-shown.ensures
+returns-in-Stop c = let e : c.args.l.verb ≡ 5 = rw c.in-Stop.ensures at c.of.ensures in rw c.given_up.ensures (step-stop _ _ _ _ _ e c.stop.ensures)

@@ -1,0 +1,10 @@
+-- By the answer. Assumes nothing.
+use Rattle.std.proofs.Common.{[], ap, ◌∙◌}
+use Rattle.cluster.specs.Refusals.{refusal_number}
+use Rattle.protocol.specs.declared.Answer.{Answer}
+use Rattle.drill.specs.Steps.{shown_as}
+use Rattle.drill.proofs.Answers.{shown-refused}
+use Rattle.drill.proofs.shown.refused.Goals as goal
+
+pub returns : goal.returns
+returns c = c.plain.ensures ∙ ap (λ (z : Answer). shown_as z []) c.from.ensures ∙ shown-refused (refusal_number c.args.refusal)
