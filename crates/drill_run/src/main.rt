@@ -25,14 +25,10 @@ fn work_area() -> [u8; drill::WORK] {
 fn run(rt: &(impl Print + Eprint), sheet: &[u8]) -> io::Result<()> {
     let mut out = output();
     let mut work = work_area();
-    let done = drill::drill(sheet, &mut out, &mut work);
-    if done.number != 0 {
+    let Ok(count) = drill::drill(sheet, &mut out, &mut work) else {
         return rt.eprint("drill_run: too many lines: a listing has at most 2,016 rows here\n");
-    }
-    if rt
-        .write_all(wire::bytes::part(&out, 0, done.count))
-        .is_err()
-    {
+    };
+    if rt.write_all(wire::bytes::part(&out, 0, count)).is_err() {
         return rt.eprint("drill_run: the listing can't be written\n");
     }
     Ok(())
