@@ -10,3 +10,4 @@ pub mod Answers
 pub mod Client
 pub mod View
 pub mod ClientBytes
+pub mod Kinds
