@@ -48,7 +48,7 @@ write-stamp s w ok =
 
 -- ---- the answers
 
-module _ {d : List ℕ} (bs : Bytes d) (packet : List ℕ) (ps : Bytes packet) (output : List ℕ) (h : Head) {n e : ℕ} {top : Top} (key : List ℕ)
+module _ {d : List ℕ} (bs : Bytes d) (packet : List ℕ) (ps : Bytes packet) (output : List ℕ) (h : Head) {n e : ℕ} {top : rust.Option Top} (key : List ℕ)
     (o : OpenedAs d (told_to h n e top))
     (dec : decode packet ≡ some (packet_at h packet)) (k : h.kind ≡ 3) (room : packet_room ≤ length output) where
   abbrev written : Write
