@@ -1,17 +1,16 @@
 -- What a stamp's bytes find among the stored writes: nothing above the highest of them, that one at its place, else what a walk finds.
 -- Equal bytes have equal keys, so a stamp above all the others is none of them. Assumes nothing.
 use mathlib.Core.Path.{◌≡◌, refl, sym, ap, ◌∙◌, subst}
-use mathlib.Core.Bool.{Bool, true, false, cond, ◌&&◌}
+use mathlib.Core.Bool.{Bool, true, false, cond}
 use mathlib.Core.List.{List, [], ◌∷◌, ◌++◌}
 use mathlib.Core.Option.{Option, none, some}
 use Prim.Native.Nat.{ℕ, ◌+◌, ◌*◌, ◌≤◌, ◌<◌, max}
 use native.Mathlib.Omega.{arith}
-use lib.Dec.{ltb}
 use lib.ListN.{drop}
 use lib.Seq.{get_or-take}
-use borrow.Author.Tests.{ltb-true, le-ltb, lt-ltb}
+use borrow.Author.Tests.{le-ltb, lt-ltb}
 use Rattle.cluster.specs.Config.{shelf}
-use Rattle.cluster.proofs.Tests.{untrue, and_both}
+use Rattle.cluster.proofs.Tests.{untrue}
 use Rattle.protocol.specs.declared.Stamp.{Stamp}
 use Rattle.format.specs.Format.{or_else, via, seq, number4, byte, run}
 use Rattle.protocol.specs.Values.{Share, Write, same_list, same_stamp, stamp_size, rank}

@@ -1,6 +1,6 @@
 -- The answers that leave the memory as it is, and the step that every answer ends with: a packet made of a head and a body's bytes
 -- is the reply of the server's step. By the laws of packets and of memories. Assumes nothing.
-use mathlib.Core.Path.{◌≡◌, refl, sym, ap, ◌∙◌, subst}
+use mathlib.Core.Path.{◌≡◌, sym, ap, ◌∙◌, subst}
 use mathlib.Core.List.{List, [], ◌++◌, append-nil}
 use mathlib.Core.Option.{Option, some}
 use Prim.Native.Nat.{ℕ, ◌≤◌}

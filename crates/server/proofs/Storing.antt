@@ -19,7 +19,6 @@ use Rattle.protocol.specs.Packet.{stamp_f, share_f, write_f, code_f, store, stor
 use Rattle.protocol.specs.Memory.{encode_memory, lookup}
 use Rattle.protocol.specs.Server.{memory_of, Acted, Server, on_store_def, act}
 use Rattle.format.specs.Reading.{bytes_at}
-use Rattle.protocol.specs.ClientBytes.{Filled}
 use Rattle.protocol.specs.Primitives.{real}
 use Rattle.protocol.specs.ServerBytes.{Served, server_in, acted_on}
 use Rattle.protocol.proofs.Acts.{ServerOk, act-ok}

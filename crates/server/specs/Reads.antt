@@ -1,6 +1,6 @@
 -- What private functions promise each other; no public contract names these.
 -- What each reader of a server's memory answers. The stored writes have no fixed length, so they are told by the places where they leave the bytes.
-use Rattle.std.specs.Prelude.{◌≡◌, Bool, true, cond, List, [], ◌∷◌, ℕ, ◌+◌, ◌<◌, ltb, max, drop, MatchOption, Some, None}
+use Rattle.std.specs.Prelude.{◌≡◌, Bool, true, cond, List, [], ◌∷◌, ℕ, ◌+◌, ltb, max, drop, MatchOption, Some, None}
 use Rattle.std.specs.declared.option.Option as rust
 use Rattle.std.proofs.Math.Option.{Option, none, some}
 use Rattle.cluster.specs.Config.{Config, shelf}

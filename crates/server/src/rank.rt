@@ -13,7 +13,8 @@ pub const ABOVE: u64 = 281474976710656;
 pub(crate) fn slot(list: &[u8], t: u8, i: u8) -> &[u8]
     ensures { result.now ≡ slot_of (shelf t) list.now i }
 {
-    wire::bytes::part(list, candidate_size(t) * usize::from(i), candidate_size(t))
+    let size = candidate_size(t);
+    wire::bytes::part(list, size * usize::from(i), size)
 }
 
 // The rank of slot i.

@@ -60,7 +60,11 @@ pub(crate) fn by_tag(
         wire::sizes::tags_size(opened.t),
     );
     wire::bytes::same_throughout(
-        part(tags, hmac::TAG * ((opened.server as usize) - 1), hmac::TAG),
+        part(
+            tags,
+            hmac::TAG * (usize::from(opened.server) - 1),
+            hmac::TAG,
+        ),
         &tag,
     )
 }
