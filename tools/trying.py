@@ -121,17 +121,20 @@ def apply(pairs, folder):
 
 
 def functions(text):
-    """The functions of a source as it is laid out: (type or "", name, first line, line before its body, last line), lines from 1."""
+    """The functions of a source as it is laid out: (type, "" for none, nothing in a trait's impl; name; first line, with its attributes; line before its
+    body; last line), lines from 1."""
     home, begun, lines = "", None, text.split("\n")
     for at, line in enumerate(lines, 1):
-        block = re.match(r"impl(?:<[^>]*>)? (?:\w+(?:<[^>]*>)? for )?(\w+)", line)
         head = re.match(r'( *)(?:pub(?:\(crate\))? )?(?:const )?(?:extern "C" )?fn (\w+)', line)
-        if block:
-            home = block.group(1)
+        if line.startswith("impl"):
+            home = None if " for " in line else re.match(r"impl(?:<.*?>)? (\w+)", line).group(1)
         elif line == "}" and begun is None:
             home = ""
         if head and begun is None:
-            begun = (head.group(1), head.group(2), at)
+            first = at
+            while lines[first - 2].strip() and lines[first - 2].strip()[:2] != "//" and lines[first - 2][-1] not in "{}":
+                first -= 1
+            begun = (head.group(1), head.group(2), first)
             body = at if line.endswith("{") else None
         elif begun and body is None and (line == begun[0] + "{" or (line.endswith("{") and line.startswith(begun[0] + ")"))):
             body = at
@@ -157,6 +160,8 @@ def function_of(folder, pairs):
     if len(found) != 1:
         return None
     one = next(iter(found))
+    if one[1] is None:
+        return None
     return one if all(file.startswith("src/") or str(pathlib.PurePath(file).parent) == proof_of(*one) for file, _, _ in pairs) else None
 
 

@@ -6,8 +6,6 @@ ghost use Rattle.cluster.specs.Config.{shelf};
 ghost use Rattle.cluster.specs.Ranges.{within};
 ghost use Rattle.cluster.specs.Refusals.{refusal_number, outcome_told};
 
-pub mod refusals; // refusals by name
-
 // The largest t, and the most servers that a shelf can have.
 pub const TOP_FAULTS: usize = 4;
 
@@ -36,9 +34,6 @@ pub const CONTENT_ROOM: usize = 1024;
 pub const MEMORY: usize = 40960;
 
 pub const CAPACITY: usize = 32;
-
-// The refusal of a lent buffer, for whose length document 01's table has no number, that is not of its size.
-pub const WRONG_SIZE: u8 = 255;
 
 // The refusals of documents 01 and 02.
 #[derive(Clone, Copy, PartialEq, Eq)]
@@ -96,20 +91,18 @@ pub struct Outcome {
     pub count: usize,
 }
 
-// Nothing is written.
-pub fn refused(number: u8) -> Outcome
-    ensures { result ≡ record { number = number; count = 0 } }
-{
-    Outcome { number, count: 0 }
-}
-
 // 0 and the bytes written, or a refusal's number and no bytes.
-pub fn outcome_of(told: Result<usize, Refusal>) -> Outcome
-    ensures { result ≡ outcome_told told }
-{
-    match told {
-        Ok(count) => Outcome { number: 0, count },
-        Err(why) => refused(why.number()),
+impl From<Result<usize, Refusal>> for Outcome {
+    ghost from_gives = { λ told outcome. outcome ≡ outcome_told told };
+
+    fn from(told: Result<usize, Refusal>) -> Outcome {
+        match told {
+            Ok(count) => Outcome { number: 0, count },
+            Err(why) => Outcome {
+                number: why.number(),
+                count: 0,
+            },
+        }
     }
 }
 

@@ -83,10 +83,12 @@ fn lane_sum(lanes: &[[u8; LANE]; WIDTH], weights: [u8; WIDTH], k: usize) -> [u8;
 fn lane_at(src: &[u8], at: usize) -> [u8; LANE]
     ensures { Lane result (λ i. get_or src.now (at + i) 0) }
 {
-    let from = at.min(src.len());
-    let n = LANE.min(src.len() - from);
+    let left = &src[at.min(src.len())..];
+    if let Some(whole) = left.first_chunk() {
+        return *whole;
+    }
     let mut out = [0u8; LANE];
-    out[..n].copy_from_slice(&src[from..from + n]);
+    out[..left.len()].copy_from_slice(left);
     out
 }
 

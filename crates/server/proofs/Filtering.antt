@@ -52,7 +52,7 @@ unfolding raise below
 blank_raises s v =
     rw (le-ltb v.latest.stamp.number 0 (omega arith), le-ltb v.latest.stamp.writer 0 (omega arith), and-false)
 
-module _ {d : List ℕ} (bs : Bytes d) (key packet : List ℕ) (ps : Bytes packet) (output : List ℕ) (h : Head) {n e : ℕ} {top : Top}
+module _ {d : List ℕ} (bs : Bytes d) (key packet : List ℕ) (ps : Bytes packet) (output : List ℕ) (h : Head) {n e : ℕ} {top : rust.Option Top}
     (o : OpenedAs d (told_to h n e top))
     (dec : decode packet ≡ some (packet_at h packet)) (k : h.kind ≡ 9) (room : packet_room ≤ length output) where
   abbrev s : Config

@@ -1,17 +1,16 @@
 -- What a stamp's bytes find among the stored writes: nothing above the highest of them, that one at its place, else what a walk finds.
 -- Equal bytes have equal keys, so a stamp above all the others is none of them. Assumes nothing.
 use mathlib.Core.Path.{◌≡◌, refl, sym, ap, ◌∙◌, subst}
-use mathlib.Core.Bool.{Bool, true, false, cond, ◌&&◌}
+use mathlib.Core.Bool.{Bool, true, false, cond}
 use mathlib.Core.List.{List, [], ◌∷◌, ◌++◌}
 use mathlib.Core.Option.{Option, none, some}
 use Prim.Native.Nat.{ℕ, ◌+◌, ◌*◌, ◌≤◌, ◌<◌, max}
 use native.Mathlib.Omega.{arith}
-use lib.Dec.{ltb}
 use lib.ListN.{drop}
 use lib.Seq.{get_or-take}
-use borrow.Author.Tests.{ltb-true, le-ltb, lt-ltb}
+use borrow.Author.Tests.{le-ltb, lt-ltb}
 use Rattle.cluster.specs.Config.{shelf}
-use Rattle.cluster.proofs.Tests.{untrue, and_both}
+use Rattle.cluster.proofs.Tests.{untrue}
 use Rattle.protocol.specs.declared.Stamp.{Stamp}
 use Rattle.format.specs.Format.{or_else, via, seq, number4, byte, run}
 use Rattle.protocol.specs.Values.{Share, Write, same_list, same_stamp, stamp_size, rank}
@@ -25,15 +24,16 @@ use Rattle.server.specs.declared.memory.Top.{Top}
 use Rattle.server.specs.declared.memory.Opened.{Opened}
 use Rattle.std.specs.declared.option.Option as rust
 use Rattle.std.specs.Prelude.{Some, None}
-use Rattle.server.specs.Reads.{first_with, FindIs, SearchAs, Holds, FindAs, highest_of, raised_top}
+use Rattle.std.proofs.lemmas.Option.{MatchOption-at_some, MatchOption-at_none}
+use Rattle.server.specs.Reads.{first_with, FindIs, SearchAs, TopOf, Holds, FindAs, highest_of, raised_top}
 
 -- ---- keys
 
-pub raised-higher : (top : Top) (k at : ℕ) → top.key < k → raised_top top k at ≡ record { key = k; at = at }
+pub raised-higher : (top : Top) (k at : ℕ) → top.key < k → raised_top (Some top) k at ≡ record { key = k; at = at }
 unfolding raised_top
 raised-higher top k at h = rw (lt-ltb top.key k h)
 
-pub raised-same : (top : Top) (k at : ℕ) → k ≤ top.key → raised_top top k at ≡ top
+pub raised-same : (top : Top) (k at : ℕ) → k ≤ top.key → raised_top (Some top) k at ≡ top
 unfolding raised_top
 raised-same top k at h = rw (le-ltb top.key k h)
 
@@ -91,35 +91,31 @@ first-append key (x ∷ xs) ys = go (same_list (stamp_f.print x.stamp) key) (fir
     go false h = h
 
 module _ (d : List ℕ) (told : Opened) (y : List ℕ) {x : List ℕ} (p : x ≡ bytes_at y 0 stamp_size) where
-  abbrev top : Top
-  top = told.top
-
   found_as : (r : rust.Option ℕ) → ((ws : List Write) → Holds d told ws → FindIs (shelf told.t) d (first_with x ws) r) → FindAs d told y r
   found_as r f ws h = subst (λ (z : List ℕ). FindIs (shelf told.t) d (first_with z ws) r) p (f ws h)
 
-  pub find-above : {k : ℕ} → k ≡ rank (stamp_at_def y) → top.key < k → FindAs d told y None
-  find-above {k} q l =
-      let e : k ≡ rank (stamp_at_def x) = q ∙ sym (rank-part y) ∙ ap (λ (z : List ℕ). rank (stamp_at_def z)) (sym p) in
-      found_as None (λ ws h. first_above x 0 ws (omega (arith, e, l, h.up.key)))
+  -- none is stored
+  pub find_none : told.top ≡ None → FindAs d told y None
+  unfolding first_with
+  find_none q =
+      found_as None (λ ws h.
+      let n : ws ≡ [] = MatchOption-at_none (ws ≡ []) (λ top. TopOf (shelf told.t) d top ws) q h.up in
+      ap (first_with x) n)
 
-  pub find-highest : {r : Bool} → r ≡ (ltb 0 top.at && same_list (bytes_at (drop top.at d) 0 stamp_size) x) → r ≡ true
-      → FindAs d told y (Some top.at)
-  find-highest c e =
-      let both = and_both (ltb 0 top.at) (same_list (bytes_at (drop top.at d) 0 stamp_size) x) (sym c ∙ e) in
-      found_as (Some top.at) (λ ws h. h.up.first (ltb-true 0 top.at both.0) x both.1)
+  module _ {top : Top} (q : told.top ≡ Some top) where
+    up_of : {ws : List Write} → Holds d told ws → TopOf (shelf told.t) d top ws
+    up_of {ws} h = MatchOption-at_some (ws ≡ []) (λ top. TopOf (shelf told.t) d top ws) top q h.up
+
+    pub find-above : {k : ℕ} → k ≡ rank (stamp_at_def y) → top.key < k → FindAs d told y None
+    find-above {k} r l =
+        let e : k ≡ rank (stamp_at_def x) = r ∙ sym (rank-part y) ∙ ap (λ (z : List ℕ). rank (stamp_at_def z)) (sym p) in
+        found_as None (λ ws h. first_above x 0 ws (omega (arith, e, l, (up_of h).key)))
+
+    pub find-highest : {r : Bool} → r ≡ same_list (bytes_at (drop top.at d) 0 stamp_size) x → r ≡ true → FindAs d told y (Some top.at)
+    find-highest c e = found_as (Some top.at) (λ ws h. (up_of h).first x (sym c ∙ e))
 
   pub find_searched : (r : rust.Option ℕ) → SearchAs (shelf told.t) told.count d x r → FindAs d told y r
   find_searched r f = found_as r (λ ws h. f ws told.end h.there)
-
--- the bytes at a place, as the code compares them; at place 0 none stand
-pub stands : (d key : List ℕ) (at : ℕ) {y x : List ℕ} {r : Bool} → y ≡ drop at d → x ≡ bytes_at y 0 stamp_size → r ≡ same_list x key → 0 < at
-    → r ≡ (ltb 0 at && same_list (bytes_at (drop at d) 0 stamp_size) key)
-stands d key at p q c l =
-    c ∙ ap (λ (z : List ℕ). same_list z key) (q ∙ ap (λ (z : List ℕ). bytes_at z 0 stamp_size) p)
-    ∙ ap (λ (b : Bool). b && same_list (bytes_at (drop at d) 0 stamp_size) key) (sym (lt-ltb 0 at l))
-
-pub none-stands : (d key : List ℕ) (at : ℕ) → at ≡ 0 → false ≡ (ltb 0 at && same_list (bytes_at (drop at d) 0 stamp_size) key)
-none-stands d key at e = ap (λ (b : Bool). b && same_list (bytes_at (drop at d) 0 stamp_size) key) (sym (le-ltb 0 at (omega (arith, e))))
 
 -- ---- what is found by a stamp's bytes is what is held for it
 

@@ -28,7 +28,7 @@ use Rattle.server.specs.declared.memory.Opened.{Opened}
 use Rattle.std.specs.declared.option.Option as rust
 use Rattle.std.specs.Prelude.{Some, None}
 use Rattle.std.specs.Option as std
-use Rattle.server.specs.Reads.{Stored, first_with, FindIs, highest_of, TopOf, no_top, FindAs, raised_top, RepeatsAs, NoWrites, WritesAs}
+use Rattle.server.specs.Reads.{Stored, first_with, FindIs, highest_of, TopOf, HighestOf, FindAs, raised_top, RepeatsAs, NoWrites, WritesAs}
 use Rattle.server.proofs.Walk.{stamp-bytes}
 use Rattle.server.proofs.Finding.{highest_more, key_printed, first_above, first-append, share_in_def, first-held}
 
@@ -60,39 +60,36 @@ module _ (d : List ℕ) (told : Opened) (bs : Bytes d) {x : List ℕ} (p : x ≡
 
 -- ---- the highest of the writes, with one more
 
-module _ (s : Config) {d : List ℕ} (bs : Bytes d) (top : Top) (seen : List Write) {at q : ℕ} (f : Leaves (write_f s) d at (write_at_def s (drop at d)) q)
-    (u : TopOf s d top seen) where
-  -- a higher write is the only one with its stamp
-  above : {k : ℕ} → k ≡ rank (write_at_def s (drop at d)).stamp → top.key < k → TopOf s d (record { key = k; at = at })
-      (seen ++ write_at_def s (drop at d) ∷ [])
+module _ (s : Config) {d : List ℕ} (bs : Bytes d) (seen : List Write) {at q : ℕ} (f : Leaves (write_f s) d at (write_at_def s (drop at d)) q) where
+  -- a write above the others is the only one with its stamp
+  above : {k : ℕ} → k ≡ rank (write_at_def s (drop at d)).stamp → highest_of 0 seen ≤ k
+      → ((key : List ℕ) → rank (stamp_at_def key) ≡ k → first_with key seen ≡ none)
+      → TopOf s d (record { key = k; at = at }) (seen ++ write_at_def s (drop at d) ∷ [])
   unfolding first_with bytes_at
-  above {k} e l =
+  above {k} e l others =
       let w : Write = write_at_def s (drop at d) in
       record {
-        key = sym (highest_more 0 seen w ∙ (let m : max (highest_of 0 seen) (rank w.stamp) ≡ rank w.stamp = omega (arith, u.key, e, l) in m) ∙ sym e);
-        place = λ _. sym e;
-        first = λ _ key g.
+        key = sym (highest_more 0 seen w ∙ (let m : max (highest_of 0 seen) (rank w.stamp) ≡ rank w.stamp = omega (arith, e, l) in m) ∙ sym e);
+        place = sym e;
+        first = λ key g.
             let b : take stamp_size (drop at d) ≡ stamp_f.print w.stamp = unfold bytes_at in (stamp-bytes s f bs) in
             let a : stamp_f.print w.stamp ≡ key = sym b ∙ same_true (take stamp_size (drop at d)) key g in
             let m : rank (stamp_at_def key) ≡ k = ap (λ (x : List ℕ). rank (stamp_at_def x)) (sym a) ∙ key_printed w.stamp ∙ sym e in
             record {
               next = q;
               there = f;
-              first = first-append key seen (w ∷ []) ∙ rw (
-                first_above key 0 seen (omega (arith, m, l, u.key)),
-                ap
-                    (λ (x : List ℕ). same_list x key) (sym b) ∙ g,
-              );
+              first = first-append key seen (w ∷ []) ∙ rw (others key m, ap (λ (x : List ℕ). same_list x key) (sym b) ∙ g);
             };
       }
 
-  below : {k : ℕ} → k ≡ rank (write_at_def s (drop at d)).stamp → k ≤ top.key → TopOf s d top (seen ++ write_at_def s (drop at d) ∷ [])
-  below {k} e l =
+  below : {top : Top} → TopOf s d top seen → {k : ℕ} → k ≡ rank (write_at_def s (drop at d)).stamp → k ≤ top.key
+      → TopOf s d top (seen ++ write_at_def s (drop at d) ∷ [])
+  below {top} u {k} e l =
       let w : Write = write_at_def s (drop at d) in
       record {
         key = sym (highest_more 0 seen w ∙ (let m : max (highest_of 0 seen) (rank w.stamp) ≡ highest_of 0 seen = omega (arith, u.key, e, l) in m) ∙ sym u.key);
         place = u.place;
-        first = λ p key g. let o = u.first p key g in record {
+        first = λ key g. let o = u.first key g in record {
           next = o.next;
           there = o.there;
           first = first-append key seen (w ∷ []) ∙ rw
@@ -100,31 +97,36 @@ module _ (s : Config) {d : List ℕ} (bs : Bytes d) (top : Top) (seen : List Wri
         };
       }
 
-  top_more : {k : ℕ} → k ≡ rank (write_at_def s (drop at d)).stamp → TopOf s d (raised_top top k at) (seen ++ write_at_def s (drop at d) ∷ [])
-  unfolding raised_top
-  top_more {k} e =
+  top_more : (o : rust.Option Top) → HighestOf s d o seen → {k : ℕ} → k ≡ rank (write_at_def s (drop at d)).stamp
+      → TopOf s d (raised_top o k at) (seen ++ write_at_def s (drop at d) ∷ [])
+  unfolding raised_top highest_of first_with
+  top_more None n {k} e =
+      let h : highest_of 0 seen ≡ 0 = ap (highest_of 0) n in
+      above e (omega (arith, h)) (λ key m. ap (first_with key) n)
+  top_more (Some top) u {k} e =
       at-cond (ltb top.key k) (record { key = k; at = at }) top (λ (z : Top). TopOf s d z (seen ++ write_at_def s (drop at d) ∷ []))
-      (λ c. above e (ltb-true top.key k c)) (λ c. below e (ltb-false top.key k c))
+      (λ c. above e (omega (arith, u.key, ltb-true top.key k c)) (λ key m. first_above key 0 seen (omega (arith, m, u.key, ltb-true top.key k c))))
+      (λ c. below u e (ltb-false top.key k c))
 
 -- ---- the walk
 
-pub record Checking (s : Config) (n : ℕ) (d : List ℕ) (at : ℕ) (top : Top) (i : ℕ) : Type 0 where
+pub record Checking (s : Config) (n : ℕ) (d : List ℕ) (at : ℕ) (top : rust.Option Top) (i : ℕ) : Type 0 where
   pub seen : List Write
   pub there : Stored s i d seen at
-  pub up : TopOf s d top seen
+  pub up : HighestOf s d top seen
   pub rest : (ws : List Write) (e : ℕ) → Stored s n d ws e
       → (ys : List Write) × Leaves (many (n - i) (write_f s)) d at ys e × (distinct ws ≡ fresh_after seen ys)
 
-pub check_none : (s : Config) (n : ℕ) (d : List ℕ) {at : ℕ} → at ≡ writes_place_def s → at ≤ length d → Checking s n d at no_top 0
+pub check_none : (s : Config) (n : ℕ) (d : List ℕ) {at : ℕ} → at ≡ writes_place_def s → at ≤ length d → Checking s n d at None 0
 unfolding highest_of
-check_none s n d {at} p h = subst (λ (j : ℕ). Checking s n d j no_top 0) (sym p) start
+check_none s n d {at} p h = subst (λ (j : ℕ). Checking s n d j None 0) (sym p) start
   where
-    start : Checking s n d (writes_place_def s) no_top 0
+    start : Checking s n d (writes_place_def s) None 0
     start =
         record {
           seen = [];
           there = leaves_none (write_f s) 0 (omega (arith, p, h));
-          up = record { key = refl; place = λ l. absurd (omega arith); first = λ l. absurd (omega arith) };
+          up = refl;
           rest = λ ws e m. (ws, subst (λ (j : ℕ). Leaves (many j (write_f s)) d (writes_place_def s) ws e) (sym (sub-zero n)) m, refl);
         }
 
@@ -133,10 +135,10 @@ pub last-rank : (d : List ℕ) {l : Label} → l ≡ label_of (stamp_at_def d) �
 last-rank d p e = e ∙ ap (λ (y : Label). rank_by y.number y.writer) p
 
 -- what is told of the writes that were seen
-abbrev pub seen_so : ℕ → ℕ → ℕ → ℕ → Top → Opened
+abbrev pub seen_so : ℕ → ℕ → ℕ → ℕ → rust.Option Top → Opened
 seen_so t b i at top = record { t = t; server = b; count = i; end = at; top = top }
 
-module _ (t : ℕ) {n : ℕ} {d : List ℕ} {at i : ℕ} {top : Top} (h : Checking (shelf t) n d at top i) where
+module _ (t : ℕ) {n : ℕ} {d : List ℕ} {at i : ℕ} {top : rust.Option Top} (h : Checking (shelf t) n d at top i) where
   pub check-end : (b : ℕ) → i ≡ n → WritesAs t b n d (Some (at, top))
   check-end b e =
       let m = subst (λ (j : ℕ). Stored (shelf t) j d h.seen at) e h.there in
@@ -169,7 +171,7 @@ module _ (t : ℕ) {n : ℕ} {d : List ℕ} {at i : ℕ} {top : Top} (h : Checki
           subst T z tt
 
       pub check_more : Bytes d → {k : ℕ} → k ≡ rank (stamp_at_def (drop at d)) → {up : Top} → up ≡ raised_top top k at → (b : ℕ) {c : Bool}
-          → RepeatsAs d (seen_so t b i at top) c → c ≡ false → Checking (shelf t) n d q up (i + 1)
+          → RepeatsAs d (seen_so t b i at top) c → c ≡ false → Checking (shelf t) n d q (Some up) (i + 1)
       unfolding write_at_def
       check_more bs q₀ v b {c} g y =
           let w : Write = write_at_def (shelf t) (drop at d) in
@@ -177,7 +179,7 @@ module _ (t : ℕ) {n : ℕ} {d : List ℕ} {at i : ℕ} {top : Top} (h : Checki
             seen = h.seen ++ w ∷ [];
             there = many_snoc (write_f (shelf t)) i h.there f;
             up = subst (λ (z : Top). TopOf (shelf t) d z (h.seen ++ w ∷ [])) (sym v)
-                (top_more (shelf t) bs top h.seen (unfold write_at_def in f) h.up q₀);
+                (top_more (shelf t) bs h.seen (unfold write_at_def in f) top h.up q₀);
             rest = λ ws e m.
                 let (ys, r, p) = h.rest ws e m in
                 let (zs, u, r') = many-next (write_f (shelf t)) (n - i) (n - (i + 1)) (omega arith) r f in

@@ -24,6 +24,7 @@ use Rattle.format.proofs.Repeats.{many_law}
 use Rattle.format.proofs.Walks.{Reads, decide, leaves_moved, many-count}
 use Rattle.wire.specs.Reads.{TookAt, byte_l, any_candidate_l}
 use Rattle.std.specs.Bool.{then_some}
+use Rattle.std.specs.declared.option.Option as rust
 use Rattle.server.specs.declared.memory.Top.{Top}
 use Rattle.server.specs.Reads.{Stored, Checked, NoWrites, OpenedAs, MemoryAs}
 
@@ -120,7 +121,7 @@ module _ {d : List ℕ} (size : length d ≡ memory_size) where
               go (inl o) = memory_twice o.there (untrue _ (w o.value o.next o.there))
               go (inr f) = memory_short f
 
-          module _ {e : ℕ} {top : Top} (w : Checked d (record { t = t; server = b; count = n; end = e; top = top })) where
+          module _ {e : ℕ} {top : rust.Option Top} (w : Checked d (record { t = t; server = b; count = n; end = e; top = top })) where
             opens : Bytes d → {o : List ℕ} → o ≡ drop e d → {c : Bool} → c ≡ zeros o → c ≡ true
                 → OpenedAs d (record { t = t; server = b; count = n; end = e; top = top })
             opens bs f g i =

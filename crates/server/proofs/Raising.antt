@@ -19,7 +19,7 @@ use Rattle.protocol.specs.Memory.{encode_memory, latest_place}
 use Rattle.protocol.specs.Primitives.{real}
 use Rattle.protocol.specs.Server.{memory_of, Server, raise, act}
 use Rattle.protocol.specs.View.{stamp_at_def, candidate_at}
-use Rattle.format.specs.Reading.{bytes_at, put}
+use Rattle.format.specs.Reading.{put}
 use Rattle.protocol.specs.ServerBytes.{Served, server_in, acted_on}
 use Rattle.protocol.proofs.Acts.{any-candidate}
 use Rattle.protocol.proofs.Changes.{latest-bytes}

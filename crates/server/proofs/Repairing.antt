@@ -15,7 +15,6 @@ use Rattle.protocol.specs.Memory.{encode_memory}
 use Rattle.protocol.specs.Primitives.{real}
 use Rattle.protocol.specs.Server.{memory_of, Server, raise, act}
 use Rattle.protocol.specs.View.{candidate_at}
-use Rattle.format.specs.Reading.{bytes_at}
 use Rattle.protocol.specs.ServerBytes.{Served, server_in, acted_on}
 use Rattle.wire.specs.Places.{body_at, packet_at}
 use Rattle.wire.specs.Make.{packet_step}

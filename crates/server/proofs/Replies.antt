@@ -1,6 +1,6 @@
 -- The answers that leave the memory as it is, and the step that every answer ends with: a packet made of a head and a body's bytes
 -- is the reply of the server's step. By the laws of packets and of memories. Assumes nothing.
-use mathlib.Core.Path.{◌≡◌, refl, sym, ap, ◌∙◌, subst}
+use mathlib.Core.Path.{◌≡◌, sym, ap, ◌∙◌, subst}
 use mathlib.Core.List.{List, [], ◌++◌, append-nil}
 use mathlib.Core.Option.{Option, some}
 use Prim.Native.Nat.{ℕ, ◌≤◌}
@@ -25,6 +25,7 @@ use Rattle.protocol.proofs.ServerLift.{reply-ok}
 use Rattle.wire.specs.Places.{body_at, packet_at}
 use Rattle.wire.specs.Make.{packet_step}
 use Rattle.wire.proofs.Laws.{made-accepted, body_bytes}
+use Rattle.std.specs.declared.option.Option as rust
 use Rattle.server.specs.declared.memory.Top.{Top}
 use Rattle.server.specs.declared.memory.Opened.{Opened}
 use Rattle.server.specs.Reads.{OpenedAs}
@@ -47,17 +48,17 @@ module _ (h : Head) (packet : List ℕ) (dec : decode packet ≡ some (packet_at
   sent-bytes ps = body_bytes packet (packet_at h packet) dec ps ∙ ap (print_body (shelf h.t)) body
 
 -- what is told of the server that the head h names
-abbrev pub told_to : Head → ℕ → ℕ → Top → Opened
+abbrev pub told_to : Head → ℕ → ℕ → rust.Option Top → Opened
 told_to h n e top = record { t = h.t; server = h.server; count = n; end = e; top = top }
 
 -- what holds of it holds of what was told, where the packet is to this server
-pub to-server : (h : Head) {told : Opened} → ToServer h told → (P : Opened → Type 0) → ((n e : ℕ) (top : Top) → P (told_to h n e top)) → P told
+pub to-server : (h : Head) {told : Opened} → ToServer h told → (P : Opened → Type 0) → ((n e : ℕ) (top : rust.Option Top) → P (told_to h n e top)) → P told
 to-server h {told} own P f =
     let q : ◌≡◌ {A = Opened} (told_to h told.count told.end told.top) told =
     λ i. record { t = own.0 i; server = own.1 i; count = told.count; end = told.end; top = told.top } in
     subst P q (f told.count told.end told.top)
 
-module _ {d : List ℕ} (key packet output : List ℕ) (h : Head) {n e : ℕ} {top : Top} (o : OpenedAs d (told_to h n e top)) where
+module _ {d : List ℕ} (key packet output : List ℕ) (h : Head) {n e : ℕ} {top : rust.Option Top} (o : OpenedAs d (told_to h n e top)) where
   -- the server's step
   abbrev pub step_of : Body → Acted
   step_of x = act real (shelf h.t) key h.server (server_in (memory_in o)) x

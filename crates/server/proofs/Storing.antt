@@ -19,7 +19,6 @@ use Rattle.protocol.specs.Packet.{stamp_f, share_f, write_f, code_f, store, stor
 use Rattle.protocol.specs.Memory.{encode_memory, lookup}
 use Rattle.protocol.specs.Server.{memory_of, Acted, Server, on_store_def, act}
 use Rattle.format.specs.Reading.{bytes_at}
-use Rattle.protocol.specs.ClientBytes.{Filled}
 use Rattle.protocol.specs.Primitives.{real}
 use Rattle.protocol.specs.ServerBytes.{Served, server_in, acted_on}
 use Rattle.protocol.proofs.Acts.{ServerOk, act-ok}
@@ -48,7 +47,7 @@ write-stamp s w ok =
 
 -- ---- the answers
 
-module _ {d : List ℕ} (bs : Bytes d) (packet : List ℕ) (ps : Bytes packet) (output : List ℕ) (h : Head) {n e : ℕ} {top : Top} (key : List ℕ)
+module _ {d : List ℕ} (bs : Bytes d) (packet : List ℕ) (ps : Bytes packet) (output : List ℕ) (h : Head) {n e : ℕ} {top : rust.Option Top} (key : List ℕ)
     (o : OpenedAs d (told_to h n e top))
     (dec : decode packet ≡ some (packet_at h packet)) (k : h.kind ≡ 3) (room : packet_room ≤ length output) where
   abbrev written : Write

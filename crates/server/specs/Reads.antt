@@ -1,6 +1,6 @@
 -- What private functions promise each other; no public contract names these.
 -- What each reader of a server's memory answers. The stored writes have no fixed length, so they are told by the places where they leave the bytes.
-use Rattle.std.specs.Prelude.{◌≡◌, Bool, true, cond, List, [], ◌∷◌, ℕ, ◌+◌, ◌<◌, ltb, max, drop, MatchOption}
+use Rattle.std.specs.Prelude.{◌≡◌, Bool, true, cond, List, [], ◌∷◌, ℕ, ◌+◌, ltb, max, drop, MatchOption, Some, None}
 use Rattle.std.specs.declared.option.Option as rust
 use Rattle.std.proofs.Math.Option.{Option, none, some}
 use Rattle.cluster.specs.Config.{Config, shelf}
@@ -46,17 +46,21 @@ unfoldable pub highest_of : ℕ → List Write → ℕ
 highest_of k [] = k
 highest_of k (w ∷ ws) = highest_of (max k (rank w.stamp)) ws
 
--- top is the highest of the writes: its key is their highest rank, 0 where there is none; at its place stands a write of that rank, and a stamp with
--- the bytes there is found there. Place 0 is none
+-- top is the highest of the writes: its key is their highest rank; at its place stands a write of that rank, and a stamp with the bytes there is found
+-- there
 pub record TopOf (s : Config) (d : List ℕ) (top : Top) (ws : List Write) : Type 0 where
   pub key : top.key ≡ highest_of 0 ws
-  pub place : 0 < top.at → rank (write_at_def s (drop top.at d)).stamp ≡ top.key
-  pub first : 0 < top.at → (key : List ℕ) → same_list (bytes_at (drop top.at d) 0 stamp_size) key ≡ true → FoundAt s d top.at (first_with key ws)
+  pub place : rank (write_at_def s (drop top.at d)).stamp ≡ top.key
+  pub first : (key : List ℕ) → same_list (bytes_at (drop top.at d) 0 stamp_size) key ≡ true → FoundAt s d top.at (first_with key ws)
+
+-- the highest of the writes, where there is one
+abbrev pub HighestOf : Config → List ℕ → rust.Option Top → List Write → Type 0
+HighestOf s d o ws = MatchOption o (ws ≡ []) (λ top. TopOf s d top ws)
 
 -- the writes ws stand in the memory d as told: their count, the place past them, and the highest of them
 pub record Holds (d : List ℕ) (told : Opened) (ws : List Write) : Type 0 where
   pub there : Stored (shelf told.t) told.count d ws told.end
-  pub up : TopOf (shelf told.t) d told.top ws
+  pub up : HighestOf (shelf told.t) d told.top ws
 
 -- the first of them whose stamp has the bytes that x begins with
 abbrev pub FindAs : List ℕ → Opened → List ℕ → rust.Option ℕ → Type 0
@@ -64,9 +68,10 @@ FindAs d told x r = (ws : List Write) → Holds d told ws → FindIs (shelf told
 
 -- ---- no stamp twice
 
--- the higher of top and the write of key k at a place
-unfoldable pub raised_top : Top → ℕ → ℕ → Top
-raised_top top k at = cond (ltb top.key k) (record { key = k; at = at }) top
+-- the higher of top, if there is one, and the write of key k at a place
+unfoldable pub raised_top : rust.Option Top → ℕ → ℕ → Top
+raised_top None k at = record { key = k; at = at }
+raised_top (Some top) k at = cond (ltb top.key k) (record { key = k; at = at }) top
 
 -- whether the stamp of the write that stands past them is that of one of them
 abbrev pub RepeatsAs : List ℕ → Opened → Bool → Type 0
@@ -84,12 +89,8 @@ pub record Checked (d : List ℕ) (told : Opened) : Type 0 where
 abbrev pub NoWrites : Config → ℕ → List ℕ → Type 0
 NoWrites s n d = (ws : List Write) (e : ℕ) → Stored s n d ws e → distinct ws ≡ true → ⊥
 
--- no write is stored
-abbrev pub no_top : Top
-no_top = record { key = 0; at = 0 }
-
 -- n writes of the server b of t: the place past them, and the highest of them
-abbrev pub WritesAs : ℕ → ℕ → ℕ → List ℕ → rust.Option (ℕ × Top) → Type 0
+abbrev pub WritesAs : ℕ → ℕ → ℕ → List ℕ → rust.Option (ℕ × rust.Option Top) → Type 0
 WritesAs t b n d r =
     MatchOption r (NoWrites (shelf t) n d) (λ x. Checked d (record { t = t; server = b; count = n; end = x.0; top = x.1 }))
 

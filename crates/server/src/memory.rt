@@ -21,21 +21,21 @@ pub const COUNT: usize = 2;
 
 pub const LATEST: usize = 3;
 
-// The highest of the stored writes: its stamp in their order, and its place; 0 and 0 where none is stored.
+// The highest of the stored writes: its stamp in their order, and its place.
 #[derive(Clone, Copy)]
 pub(crate) struct Top {
     pub key: u64,
     pub at: usize,
 }
 
-// What a server's memory tells: t, the server's number, how many writes are stored, the place past them, and the highest of them.
+// What a server's memory tells: t, the server's number, how many writes are stored, the place past them, and the highest of them, if one is stored.
 #[derive(Clone, Copy)]
 pub(crate) struct Opened {
     pub t: u8,
     pub server: u8,
     pub count: usize,
     pub end: usize,
-    pub top: Top,
+    pub top: Option<Top>,
 }
 
 // The place of the stored writes.
@@ -67,11 +67,11 @@ fn search(memory: &[u8], t: u8, n: usize, stamp: &[u8]) -> Option<usize>
     None
 }
 
-// Whether a stamp's bytes stand at a place; at place 0 none do.
+// Whether a stamp's bytes stand at a place.
 fn stands_at(memory: &[u8], at: usize, stamp: &[u8]) -> bool
-    ensures { result ≡ (ltb 0 at && same_list (bytes_at (drop at memory.now) 0 stamp_size) stamp.now) }
+    ensures { result ≡ same_list (bytes_at (drop at memory.now) 0 stamp_size) stamp.now }
 {
-    0 < at && wire::bytes::same(part(rest(memory, at), 0, wire::sizes::STAMP), stamp)
+    wire::bytes::same(part(rest(memory, at), 0, wire::sizes::STAMP), stamp)
 }
 
 // The first stored write whose stamp has the bytes that some begin with; key is that stamp's rank. A stamp above the highest of them needs no search,
@@ -81,7 +81,7 @@ fn find_ranked(memory: &[u8], opened: Opened, key: u64, bytes: &[u8]) -> Option<
     ensures { FindAs memory.now opened bytes.now result }
 {
     let stamp = part(bytes, 0, wire::sizes::STAMP);
-    let top = opened.top;
+    let top = opened.top?;
     if top.key < key {
         return None;
     }
@@ -97,11 +97,14 @@ pub(crate) fn find(memory: &[u8], opened: Opened, bytes: &[u8]) -> Option<usize>
     find_ranked(memory, opened, rank_at(bytes), bytes)
 }
 
-// The higher of top and the write of a key at a place.
-fn raised(top: Top, key: u64, at: usize) -> Top
+// The higher of top, if there is one, and the write of a key at a place.
+fn raised(top: Option<Top>, key: u64, at: usize) -> Top
     ensures { result ≡ raised_top top key at }
 {
-    if top.key < key { Top { key, at } } else { top }
+    match top {
+        Some(top) if key <= top.key => top,
+        _ => Top { key, at },
+    }
 }
 
 // Whether one of the stored writes that were read has the stamp at the place past them, whose rank is key. Writes mostly arrive in the order of
@@ -110,16 +113,26 @@ fn repeats(memory: &[u8], read: Opened, key: u64) -> bool
     requires { key ≡ rank (stamp_at_def (drop read.end memory.now)) }
     ensures { RepeatsAs memory.now read result }
 {
-    key <= read.top.key && find_ranked(memory, read, key, rest(memory, read.end)).is_some()
+    let Some(top) = read.top else {
+        return false;
+    };
+    key <= top.key && find_ranked(memory, read, key, rest(memory, read.end)).is_some()
 }
 
-// n stored writes, no two of one stamp, from their place on, after the t and the server that were read: the place past them, and the highest of them.
-fn check_writes(memory: &[u8], t: u8, server: u8, n: usize, place: usize) -> Option<(usize, Top)>
+// n stored writes, no two of one stamp, from their place on, after the t and the server that were read: the place past them, and the highest of them,
+// if there is one.
+fn check_writes(
+    memory: &[u8],
+    t: u8,
+    server: u8,
+    n: usize,
+    place: usize,
+) -> Option<(usize, Option<Top>)>
     requires { (place ≡ writes_place_def (shelf t)) × (place ≤ length memory.now) }
     ensures { WritesAs t server n memory.now result }
 {
     let mut at = place;
-    let mut top = Top { key: 0, at: 0 };
+    let mut top = None;
     for i in 0..n {
         let (label, _, share) = wire::parts::stamp_field(memory, Cursor { at })?;
         let (_, next) = wire::parts::share_field(memory, share, t)?;
@@ -134,7 +147,7 @@ fn check_writes(memory: &[u8], t: u8, server: u8, n: usize, place: usize) -> Opt
         if repeats(memory, read, key) {
             return None;
         }
-        top = raised(top, key, at);
+        top = Some(raised(top, key, at));
         at = next.at;
     }
     Some((at, top))

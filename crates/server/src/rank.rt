@@ -7,13 +7,14 @@ ghost use Rattle.server.specs.Ranks.{slot_of, rank_of, slot_with_def, next_rank_
 use wire::sizes::candidate_size;
 
 // Above every rank.
-pub const ABOVE: u64 = 281474976710656;
+pub const ABOVE: u64 = 1 << 48;
 
 // The bytes of the candidate in slot i of a list.
 pub(crate) fn slot(list: &[u8], t: u8, i: u8) -> &[u8]
     ensures { result.now ≡ slot_of (shelf t) list.now i }
 {
-    wire::bytes::part(list, candidate_size(t) * usize::from(i), candidate_size(t))
+    let size = candidate_size(t);
+    wire::bytes::part(list, size * usize::from(i), size)
 }
 
 // The rank of slot i.

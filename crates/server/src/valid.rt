@@ -54,15 +54,10 @@ pub(crate) fn by_tag(
 {
     let stamp = part(candidate, 0, wire::sizes::STAMP);
     let tag = hmac::prepared_tag_with(prepared, stamp, digest);
-    let tags = part(
-        candidate,
-        wire::sizes::NAME,
-        wire::sizes::tags_size(opened.t),
-    );
-    wire::bytes::same_throughout(
-        part(tags, hmac::TAG * ((opened.server as usize) - 1), hmac::TAG),
-        &tag,
-    )
+    let size = wire::sizes::tags_size(opened.t);
+    let tags = part(candidate, wire::sizes::NAME, size);
+    let place = hmac::TAG * (usize::from(opened.server) - 1);
+    wire::bytes::same_throughout(part(tags, place, hmac::TAG), &tag)
 }
 
 // With a key that is prepared for many candidates.
@@ -79,7 +74,7 @@ pub(crate) fn valid_prepared(
     by_history(memory, opened, candidate, digest) || by_tag(prepared, opened, candidate, digest)
 }
 
-// A candidate that is held costs no preparation of the key.
+// As valid_prepared, with the key: it is prepared only where the history does not hold the candidate; a closure for that is no plainer.
 pub(crate) fn valid(
     memory: &[u8],
     key: [u8; cluster::KEY],

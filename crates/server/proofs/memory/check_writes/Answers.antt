@@ -35,7 +35,7 @@ pub loop-i-preserved : goal.loop-i-preserved
 loop-i-preserved c =
     let w = write-took (shelf c.args.t) c.in_ok-label.ensures c.in_ok-next.ensures in
     check_more _ c.loop-i.invariant (omega arith) w.took.leaves (λ i. (c.type_inv.memory i).fits) (last-rank _ w.label c.rank_of-key.ensures)
-    c.raised-top.ensures _ c.repeats.ensures c.if-repeats.false
+    c.raised.ensures _ c.repeats.ensures c.if-repeats.false
 
 pub returns : goal.returns
 returns c = check-end _ c.loop-i.invariant _ (omega arith)
