@@ -8,12 +8,15 @@ use Prim.Native.Nat.{ℕ, zero, suc, ◌+◌, ◌≤◌, ◌<◌}
 use native.Mathlib.Omega.{arith}
 use lib.Dec.{leb, eqb}
 use lib.ListN.{drop, get_or}
-use borrow.Author.Tests.{eq-eqb, ne_eqb, le-leb, lt-leb}
+use borrow.Author.Tests.{ne_eqb, lt-leb}
 use Rattle.cluster.specs.Config.{Config}
 use Rattle.protocol.specs.declared.Label.{Label}
 use Rattle.protocol.specs.declared.Stamp.{Stamp}
 use Rattle.format.specs.Format.{byte}
 use Rattle.protocol.specs.Values.{Held, stamp_size}
+use Rattle.protocol.specs.Kinds.{code_number}
+use Rattle.protocol.specs.declared.codes.Code.{Code}
+use Rattle.protocol.specs.declared.codes.Code.TheVariants as code
 use Rattle.protocol.specs.Packet.{share_f, held_f, held_most_def, code_f}
 use Rattle.protocol.specs.View.{stamp_at_def, share_at, held_at}
 use Rattle.format.specs.Reading.{Leaves, Stops}
@@ -121,11 +124,11 @@ module _ {s : List ℕ} {at : ℕ} where
   unfolding code_f
   code_in t e = record { leaves = leaves-keep _ _ t.leaves (ap is_code (sym t.number) ∙ e); number = t.number; place = t.place }
 
-  pub code-zero : {v p : ℕ} → TookAt (byte_l 0 11) s at v p → v ≡ 0 → TookAt code_l s at v p
-  code-zero {v} t e = code_in t (simp (eq-eqb v 0 e))
-
-  pub code-high : {v p : ℕ} → TookAt (byte_l 0 11) s at v p → (v ≡ 0 → ⊥) → 10 ≤ v → TookAt code_l s at v p
-  code-high {v} t n h = code_in t (simp (ne_eqb v 0 n, le-leb 10 v h))
+  -- a byte that is a code's number
+  pub code_took : {v p : ℕ} → TookAt (byte_l 0 11) s at v p → (k : Code) → code_number k ≡ v → TookAt code_l s at v p
+  code_took t code.Kept e = code_in t (ap is_code (sym e))
+  code_took t code.Held e = code_in t (ap is_code (sym e))
+  code_took t code.Full e = code_in t (ap is_code (sym e))
 
   pub code_stops : {v p : ℕ} → TookAt (byte_l 0 11) s at v p → (v ≡ 0 → ⊥) → v < 10 → Stops code_f s at
   unfolding code_f

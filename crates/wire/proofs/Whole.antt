@@ -1,7 +1,6 @@
 -- From a body's fields to the body of its kind, and from head and body to the packet.
 -- Assumes nothing.
 use mathlib.Core.Path.{◌≡◌, refl, sym, ap, ◌∙◌, subst}
-use mathlib.Core.Logic.{◌⊎◌, inl, inr}
 use mathlib.Core.Bool.{Bool, true, false, cond}
 use mathlib.Core.List.{List, [], ◌∷◌}
 use mathlib.Core.Option.{none, some}
@@ -9,7 +8,7 @@ use Prim.Native.Nat.{ℕ, zero, suc, ◌+◌, ◌*◌, ◌≤◌, ◌<◌}
 use native.Mathlib.Omega.{arith}
 use lib.Dec.{eqb}
 use lib.ListN.{length, drop, get_or, length-append}
-use borrow.Author.Tests.{ne_eqb, eqb-true, eqb-false}
+use borrow.Author.Tests.{ne_eqb}
 use Rattle.cluster.specs.Config.{Config, shelf}
 use Rattle.protocol.specs.declared.Head.{Head}
 use Rattle.protocol.specs.declared.Label.{Label}
@@ -19,7 +18,7 @@ use Rattle.protocol.specs.Packet.{Body, head_f, head_size, body_f, packet_f, dec
 use Rattle.protocol.specs.View.{stamp_at_def, candidate_at, share_at, held_at}
 use Rattle.format.specs.Reading.{Leaves, Stops}
 use Rattle.format.proofs.Leaves.{leaves-seq, leaves-via, stops-via, stops_second}
-use Rattle.protocol.proofs.Bodies.{Kind, clock-kind, complete-reply-kind, collect-kind, repair-reply-kind}
+use Rattle.protocol.proofs.Bodies.{Kind}
 use Rattle.protocol.proofs.Whole.{body-leaves, body_stops, decoded, refused, trailing}
 use Rattle.wire.specs.Places.{body_at, packet_at, write_at_def, candidate_list, no_label, body_label, body_number, fragment_held, fragment_of, fragment_in}
 use Rattle.wire.specs.Reads.{Layout, TookAt, Past, FieldAs, LabelledAs, without_label, TookBody, BodyAs, TookPacket}
@@ -39,12 +38,6 @@ flag_of true x = refl
 flag_of false x = refl
 
 -- ---- bodies
-
-over : (n j : ℕ) → n ≤ j → (j ≡ n → ⊥) → n + 1 ≤ j
-over n j h e = omega arith
-
-twelve : (j : ℕ) → j ≤ 12 → 12 ≤ j → j ≡ 12
-twelve j h k = omega arith
 
 module _ (c : Config) (s : List ℕ) (at : ℕ) where
   -- a body of one field: what the field's reader answers, the body's reader answers
@@ -79,7 +72,7 @@ module _ (c : Config) (s : List ℕ) (at : ℕ) where
   unfolding empty
   nothing h = record { parsed = refl; within = h; ok = tt }
 
-  bare : {con : Body} (k : ℕ) → Kind c k empty (λ x. con) → con ≡ body_at c k (drop at s) → no_label ≡ body_label con → 0 ≡ body_number con
+  pub bare : {con : Body} (k : ℕ) → Kind c k empty (λ x. con) → con ≡ body_at c k (drop at s) → no_label ≡ body_label con → 0 ≡ body_number con
       → at ≤ length s → (j : ℕ) → j ≡ k → TookBody c j s at no_label 0 at
   bare k d e f g h j ej =
       subst (λ (i : ℕ). TookBody c i s at no_label 0 at) (sym ej)
@@ -88,20 +81,6 @@ module _ (c : Config) (s : List ℕ) (at : ℕ) where
         label = f ∙ ap body_label e;
         number = g ∙ ap body_number e;
       })
-
-  pub bare_as : at ≤ length s → (j : ℕ) → 1 ≤ j → j ≤ 12 → (j ≡ 2 → ⊥) → (j ≡ 3 → ⊥) → (j ≡ 4 → ⊥) → (j ≡ 8 → ⊥) → ((j ≡ 5) ⊎ (j ≡ 11) → ⊥)
-      → (j ≡ 9 → ⊥) → (j ≡ 10 → ⊥) → TookBody c j s at no_label 0 at
-  unfolding body_at body_label body_number
-  bare_as h j l u n2 n3 n4 n8 n5-11 n9 n10 = go (eqb j 1) (eqb j 6) (eqb j 7) refl refl refl
-    where
-      go : (x y z : Bool) → eqb j 1 ≡ x → eqb j 6 ≡ y → eqb j 7 ≡ z → TookBody c j s at no_label 0 at
-      go true y z ex ey ez = bare 1 (clock-kind c) refl refl refl h j (eqb-true j 1 ex)
-      go false true z ex ey ez = bare 6 (complete-reply-kind c) refl refl refl h j (eqb-true j 6 ey)
-      go false false true ex ey ez = bare 7 (collect-kind c) refl refl refl h j (eqb-true j 7 ez)
-      go false false false ex ey ez = bare 12 (repair-reply-kind c) refl refl refl h j (twelve j u
-          (over 11 j (over 10 j (over 9 j (over 8 j (over 7 j (over 6 j (over 5 j (over 4 j
-          (over 3 j (over 2 j (over 1 j l (eqb-false j 1 ex)) n2) n3) n4) (λ e. n5-11 (inl e))) (eqb-false j 6 ey)) (eqb-false j 7 ez)) n8) n9) n10)
-          (λ e. n5-11 (inr e))))
 
 -- ---- packets
 

@@ -9,6 +9,7 @@ use Rattle.protocol.specs.declared.Head.{Head}
 use Rattle.protocol.specs.declared.Label.{Label}
 use Rattle.protocol.specs.declared.Stamp.{Stamp}
 use Rattle.format.specs.Format.{Fmt, zeros, byte, number2, number4, run, many}
+use Rattle.protocol.specs.Kinds.{kind_number}
 use Rattle.protocol.specs.Values.{Candidate, Share, Write, Held, label_of, stamp_size, candidate_size_def}
 use Rattle.protocol.specs.Packet.{head_f, head_size, stamp_f, any_stamp_f, share_f, write_f, candidate_f, any_candidate_f, candidates_f, held_f, code_f, body_f, decode}
 use Rattle.protocol.specs.View.{stamp_at_def, candidate_at, share_at, held_at}
@@ -160,4 +161,4 @@ pub record TookPacket (s : List ℕ) (h : Head) (l : Label) (v : ℕ) : Type 0 w
   pub number : v ≡ body_number (packet_at h s).body
 
 abbrev pub PacketAs : List ℕ → Option Passed → Type 0
-PacketAs s r = MatchOption r (decode s ≡ none) (λ p. TookPacket s p.head p.label p.number)
+PacketAs s r = MatchOption r (decode s ≡ none) (λ p. TookPacket s p.head p.label p.number × (kind_number p.kind ≡ p.head.kind))

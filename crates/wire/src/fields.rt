@@ -3,6 +3,7 @@ ghost use Rattle.std.specs.Prelude.{◌<◌, ◌≤◌, length};
 ghost use Rattle.wire.specs.Reads.{FieldAs, RangedAs, byte_l, number2_l, number4_l, code_l, RunAs, ZeroAs};
 
 use crate::bytes::{all_zero, number2, number4, rest};
+use protocol::codes::Code;
 
 // A place in bytes.
 #[derive(Clone, Copy)]
@@ -80,9 +81,7 @@ pub(crate) fn zero_run(s: &[u8], c: Cursor, n: usize) -> Option<Cursor>
 pub(crate) fn code_field(s: &[u8], c: Cursor) -> Option<(u32, Cursor)>
     ensures { FieldAs code_l s.now c.at result }
 {
-    let (v, next) = byte_field(s, c, 0, u32::from(protocol::codes::FULL))?;
-    if v != 0 && v < u32::from(protocol::codes::HELD) {
-        return None;
-    }
+    let (v, next) = byte_field(s, c, 0, u32::from(Code::Full.number()))?;
+    Code::of(v as u8)?;
     Some((v, next))
 }

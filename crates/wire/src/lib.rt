@@ -10,8 +10,8 @@
 // fields  byte_field, number2_field, number4_field, code_field: Reads' FieldAs, a number and the cursor past it, or None where nothing is taken
 // parts   share_field, candidates_field: FieldAs too; stamp_field, any_stamp_field, write_field, candidate_field, any_candidate_field, held_field:
 //         LabelledAs, with number and writer of the stamp that the part begins with
-// packet  read_packet: PacketAs, decode's answer for all kinds, with the label of body_label and the number of body_number; fragment, share_fragment:
-//         the part of the packet; head_field: HeadAs
+// packet  read_packet: PacketAs, decode's answer for all kinds, with its kind, the label of body_label and the number of body_number; fragment,
+//         share_fragment: the part of the packet; head_field: HeadAs
 // make    put, put_byte, put_number2, put_number4, put_stamp, put_head: placed; make_packet: packet_step, which is encode's bytes (proofs/Laws)
 #![tactic(auto)]
 

@@ -1,6 +1,7 @@
 // Readers of packets. A packet is let through by its fields, one after another, up to its last byte.
 ghost use Rattle.std.specs.Prelude.{◌≡◌, ◌≤◌, length};
 ghost use Rattle.cluster.specs.Config.{shelf};
+ghost use Rattle.protocol.specs.Kinds.{kind_number};
 ghost use Rattle.protocol.specs.Packet.{decode};
 ghost use Rattle.protocol.specs.View.{share_at};
 ghost use Rattle.wire.specs.Places.{fragment_in};
@@ -12,12 +13,15 @@ use crate::parts::{
     NO_LABEL, any_candidate_field, any_stamp_field, candidate_field, candidates_field, held_field,
     unlabelled, write_field,
 };
+use protocol::kinds::Kind;
 
-// What is told of a packet that was let through, so that nobody reads it again by its place: its head, number and writer of the stamp that its body
-// begins with, and the number that the body's reader read (a store's record length, its reply's code, a filter's count, its reply's byte).
+// What is told of a packet that was let through, so that nobody reads it again by its place: its head, the kind that the head's number is, number and
+// writer of the stamp that its body begins with, and the number that the body's reader read (a store's record length, its reply's code, a filter's
+// count, its reply's byte).
 #[derive(Clone, Copy)]
 pub struct Passed {
     pub head: protocol::Head,
+    pub kind: Kind,
     pub label: protocol::Label,
     pub number: u32,
 }
@@ -30,8 +34,8 @@ pub(crate) fn head_field(s: &[u8]) -> Option<(protocol::Head, Cursor)>
     let (kind, c1) = byte_field(
         s,
         start,
-        u32::from(protocol::kinds::CLOCK),
-        u32::from(protocol::kinds::REPAIR_REPLY),
+        u32::from(Kind::Clock.number()),
+        u32::from(Kind::RepairReply.number()),
     )?;
     let (client, c2) = byte_field(s, c1, 1, cluster::TOP_CLIENT as u32)?;
     let (server, c3) = byte_field(s, c2, 1, cluster::MOST_SERVERS as u32)?;
@@ -50,20 +54,22 @@ pub(crate) fn head_field(s: &[u8]) -> Option<(protocol::Head, Cursor)>
     Some((head, c5))
 }
 
-// The body of a packet of a kind from 1 to 12; kinds 1, 6, 7 and 12 have none. A body that begins with no stamp has number and writer 0.
-fn body_field(s: &[u8], c: Cursor, kind: u8, t: u8) -> Option<(protocol::Label, u32, Cursor)>
-    requires { (1 ≤ kind) × (kind ≤ 12) × (c.at ≤ length s.now) }
-    ensures { BodyAs (shelf t) kind s.now c.at result }
+// The body of a packet; clock, collect, and the replies to complete and repair have none. A body that begins with no stamp has number and writer 0.
+fn body_field(s: &[u8], c: Cursor, kind: Kind, t: u8) -> Option<(protocol::Label, u32, Cursor)>
+    requires { c.at ≤ length s.now }
+    ensures { BodyAs (shelf t) (kind_number kind) s.now c.at result }
 {
     match kind {
-        protocol::kinds::CLOCK_REPLY => any_stamp_field(s, c), // clock reply: a stamp, or the blank
-        protocol::kinds::STORE => write_field(s, c, t), // store: a stored write
-        protocol::kinds::STORE_REPLY => unlabelled(code_field(s, c)), // store reply: 0, 10 or 11
-        protocol::kinds::COLLECT_REPLY => any_candidate_field(s, c, t), // collect reply: a candidate, or the blank
-        protocol::kinds::COMPLETE | protocol::kinds::REPAIR => candidate_field(s, c, t), // complete, repair: a candidate
-        protocol::kinds::FILTER => unlabelled(candidates_field(s, c, t)), // filter: a list of candidates
-        protocol::kinds::FILTER_REPLY => held_field(s, c, t), // filter reply: what is held for a stamp, or the blank
-        _ => Some((NO_LABEL, 0, c)),
+        Kind::ClockReply => any_stamp_field(s, c), // a stamp, or the blank
+        Kind::Store => write_field(s, c, t), // a stored write
+        Kind::StoreReply => unlabelled(code_field(s, c)), // 0, 10 or 11
+        Kind::CollectReply => any_candidate_field(s, c, t), // a candidate, or the blank
+        Kind::Complete | Kind::Repair => candidate_field(s, c, t), // a candidate
+        Kind::Filter => unlabelled(candidates_field(s, c, t)), // a list of candidates
+        Kind::FilterReply => held_field(s, c, t), // what is held for a stamp, or the blank
+        Kind::Clock | Kind::Collect | Kind::CompleteReply | Kind::RepairReply => Some((
+            NO_LABEL, 0, c,
+        )),
     }
 }
 
@@ -72,12 +78,14 @@ pub fn read_packet(packet: &[u8]) -> Option<Passed>
     ensures { PacketAs packet.now result }
 {
     let (head, c1) = head_field(packet)?;
-    let (label, number, end) = body_field(packet, c1, head.kind, head.t)?;
+    let kind = Kind::of(head.kind)?;
+    let (label, number, end) = body_field(packet, c1, kind, head.t)?;
     if end.at < packet.len() {
         return None;
     }
     Some(Passed {
         head,
+        kind,
         label,
         number,
     })
@@ -95,7 +103,7 @@ pub fn share_fragment(share: &[u8], t: u8) -> &[u8]
     )
 }
 
-// The fragment in a packet of kind 3 or 10, as that part of the packet; the empty part where the packet is broken or has none.
+// The fragment in a store or in the reply to filter, as that part of the packet; the empty part where the packet is broken or has none.
 pub fn fragment(packet: &[u8]) -> &[u8]
     ensures { result.now ≡ fragment_in (decode packet.now) }
 {
@@ -103,11 +111,23 @@ pub fn fragment(packet: &[u8]) -> &[u8]
         return &[];
     };
     let at = crate::sizes::HEAD + crate::sizes::STAMP;
-    match passed.head.kind {
-        protocol::kinds::STORE => share_fragment(rest(packet, at), passed.head.t),
-        protocol::kinds::FILTER_REPLY if passed.number != 0 => {
+    match passed.kind {
+        Kind::Store => share_fragment(rest(packet, at), passed.head.t),
+        Kind::FilterReply => {
+            if passed.number == 0 {
+                return &[];
+            }
             share_fragment(rest(packet, at + 1), passed.head.t)
         }
-        _ => &[],
+        Kind::Clock
+        | Kind::ClockReply
+        | Kind::StoreReply
+        | Kind::Complete
+        | Kind::CompleteReply
+        | Kind::Collect
+        | Kind::CollectReply
+        | Kind::Filter
+        | Kind::Repair
+        | Kind::RepairReply => &[],
     }
 }

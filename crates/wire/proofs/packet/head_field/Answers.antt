@@ -8,20 +8,20 @@ use Rattle.wire.proofs.packet.head_field.Goals as goal
 pub returns-in_err-kind : goal.returns-in_err-kind
 unfolding head_f
 returns-in_err-kind c =
-    let kind = rw (c.from.ensures, c.from-2.ensures) at c.in_err-kind.ensures in
+    let kind = rw (c.from.ensures, c.number.ensures, c.from-2.ensures, c.number-2.ensures) at c.in_err-kind.ensures in
     rw c.from_residual.ensures (stops-kept _ _ (stops-via _ _ _ (stops_first _ _ kind)))
 
 pub returns-in_err-client : goal.returns-in_err-client
 unfolding head_f
 returns-in_err-client c =
-    let kind = rw (c.from.ensures, c.from-2.ensures) at c.in_ok-kind.ensures in
+    let kind = rw (c.from.ensures, c.number.ensures, c.from-2.ensures, c.number-2.ensures) at c.in_ok-kind.ensures in
     rw c.from_residual-in_err-client.ensures
     (stops-kept _ _ (stops-via _ _ _ (stops_second _ _ kind.leaves (stops_first _ _ c.in_err-client.ensures))))
 
 pub returns-in_err-server : goal.returns-in_err-server
 unfolding head_f
 returns-in_err-server c =
-    let kind = rw (c.from.ensures, c.from-2.ensures) at c.in_ok-kind.ensures in
+    let kind = rw (c.from.ensures, c.number.ensures, c.from-2.ensures, c.number-2.ensures) at c.in_ok-kind.ensures in
     rw c.from_residual-in_err-server.ensures
     (stops-kept _ _
     (stops-via _ _ _
@@ -30,7 +30,7 @@ returns-in_err-server c =
 pub returns-in_err-t : goal.returns-in_err-t
 unfolding head_f
 returns-in_err-t c =
-    let kind = rw (c.from.ensures, c.from-2.ensures) at c.in_ok-kind.ensures in
+    let kind = rw (c.from.ensures, c.number.ensures, c.from-2.ensures, c.number-2.ensures) at c.in_ok-kind.ensures in
     rw c.from_residual-in_err-t.ensures
     (stops-kept _ _
     (stops-via _ _ _
@@ -41,7 +41,7 @@ returns-in_err-t c =
 pub returns-in_err-call : goal.returns-in_err-call
 unfolding head_f
 returns-in_err-call c =
-    let kind = rw (c.from.ensures, c.from-2.ensures) at c.in_ok-kind.ensures in
+    let kind = rw (c.from.ensures, c.number.ensures, c.from-2.ensures, c.number-2.ensures) at c.in_ok-kind.ensures in
     rw c.from_residual-in_err-call.ensures
     (stops-kept _ _
     (stops-via _ _ _
@@ -54,12 +54,12 @@ overflow_cast-t c = omega (arith, (byte_range 1 top_faults c.in_ok-t.ensures).1)
 
 pub returns-then-servers-server : goal.returns-then-servers-server
 returns-then-servers-server c =
-    let kind = rw (c.from.ensures, c.from-2.ensures) at c.in_ok-kind.ensures in
+    let kind = rw (c.from.ensures, c.number.ensures, c.from-2.ensures, c.number-2.ensures) at c.in_ok-kind.ensures in
     head-outside kind c.in_ok-client.ensures c.in_ok-server.ensures c.in_ok-t.ensures c.in_ok-call.ensures (omega (arith, c.servers.ensures))
 
 pub overflow_cast-head : goal.overflow_cast-head
 overflow_cast-head c =
-    let kind = rw (c.from.ensures, c.from-2.ensures) at c.in_ok-kind.ensures in
+    let kind = rw (c.from.ensures, c.number.ensures, c.from-2.ensures, c.number-2.ensures) at c.in_ok-kind.ensures in
     omega (arith, (byte_range 1 12 kind).1)
 
 pub overflow_cast-head-2 : goal.overflow_cast-head-2
@@ -73,5 +73,5 @@ overflow_cast-head-4 c = omega (arith, (byte_range 1 top_faults c.in_ok-t.ensure
 
 pub returns : goal.returns
 returns c =
-    let kind = rw (c.from.ensures, c.from-2.ensures) at c.in_ok-kind.ensures in
+    let kind = rw (c.from.ensures, c.number.ensures, c.from-2.ensures, c.number-2.ensures) at c.in_ok-kind.ensures in
     head-took kind c.in_ok-client.ensures c.in_ok-server.ensures c.in_ok-t.ensures c.in_ok-call.ensures (omega (arith, c.servers.ensures))
