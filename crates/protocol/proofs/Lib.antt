@@ -33,3 +33,4 @@ pub mod ReadSeen
 pub mod Told
 pub mod TakeSeen
 pub mod StepLift
+pub mod Numbered
