@@ -1,10 +1,8 @@
 -- The bytes of the round's packet: the head, and the kept bytes that its body is made of.
 -- The encoding of what the view of the kept bytes requests, with the round put in. Assumes nothing.
 use mathlib.Core.Path.{◌≡◌, refl, sym, ap}
-use mathlib.Core.Logic.{◌⊎◌, ⊎_elim}
 use mathlib.Core.List.{List, [], ◌++◌, append-nil}
-use Prim.Native.Nat.{ℕ, zero, suc, ◌-◌, ◌*◌, ◌≤◌}
-use native.Mathlib.Omega.{arith}
+use Prim.Native.Nat.{ℕ, ◌-◌, ◌≤◌}
 use borrow.Author.Tests.{le-leb}
 use Rattle.cluster.specs.Config.{shelf}
 use Rattle.protocol.specs.declared.Call.{Call}
@@ -38,34 +36,20 @@ module _ (t client b : ℕ) (c : Call) (kept : List ℕ) where
   unfolding encode packet_f via seq body_f made hand_of
   collect-bytes = refl
 
-  complete-bytes : bytes 3 ≡ head_f.print (head 5) ++ (chosen ++ [])
+  pub complete-bytes : bytes 3 ≡ head_f.print (head 5) ++ (chosen ++ [])
   unfolding encode packet_f via seq body_f made hand_of
   complete-bytes = ap (λ (x : List ℕ). head_f.print (head 5) ++ x) (sym (append-nil chosen))
 
-  repair-bytes : bytes 6 ≡ head_f.print (head 11) ++ (chosen ++ [])
+  pub repair-bytes : bytes 6 ≡ head_f.print (head 11) ++ (chosen ++ [])
   unfolding encode packet_f via seq body_f made hand_of
   repair-bytes = ap (λ (x : List ℕ). head_f.print (head 11) ++ x) (sym (append-nil chosen))
-
-  pub chosen-bytes : (r : ℕ) → (r ≡ 3) ⊎ (r ≡ 6) → bytes r ≡ head_f.print (head (2 * r - 1)) ++ (chosen ++ [])
-  chosen-bytes r = ⊎_elim (λ e. rw e complete-bytes) (λ e. rw e repair-bytes)
 
   pub filter-bytes : bytes 5 ≡ head_f.print (head 9) ++ (candidates_f (shelf t)).print (gather (candidates_in (shelf t) kept) (shelf t).servers)
   unfolding encode packet_f via seq body_f made hand_of
   filter-bytes = refl
 
-  pub store_bytes : (r : ℕ) → r ≡ 2 → 1 ≤ b → b ≤ (shelf t).servers
-      → bytes r ≡ head_f.print (head (2 * r - 1)) ++ (stamp_f.print (chosen_of (shelf t) kept).stamp ++ (share_f (shelf t)).print
+  pub store_bytes : 1 ≤ b → b ≤ (shelf t).servers
+      → bytes 2 ≡ head_f.print (head 3) ++ (stamp_f.print (chosen_of (shelf t) kept).stamp ++ (share_f (shelf t)).print
       (share_at (shelf t) (reply_slot_of kept (b - 1))))
   unfolding encode packet_f write_f via seq body_f made hand_of shares_in
-  store_bytes r e lo hi = rw (e, le-leb 1 b lo, le-leb b (shelf t).servers hi)
-
-  pub empty-bytes : (r : ℕ) → 1 ≤ r → r ≤ 6 → (r ≡ 2 → ⊥) → (r ≡ 3 → ⊥) → (r ≡ 5 → ⊥) → (r ≡ 6 → ⊥) → bytes r ≡ head_f.print (head (2 * r - 1)) ++
-      ([] ++ [])
-  empty-bytes zero lo hi a b c d = let z : ⊥ = omega arith in absurd z
-  empty-bytes (suc zero) lo hi a b c d = clock-bytes
-  empty-bytes (suc (suc zero)) lo hi a b c d = absurd (a refl)
-  empty-bytes (suc (suc (suc zero))) lo hi a b c d = absurd (b refl)
-  empty-bytes (suc (suc (suc (suc zero)))) lo hi a b c d = collect-bytes
-  empty-bytes (suc (suc (suc (suc (suc zero))))) lo hi a b c d = absurd (c refl)
-  empty-bytes (suc (suc (suc (suc (suc (suc zero)))))) lo hi a b c d = absurd (d refl)
-  empty-bytes (suc (suc (suc (suc (suc (suc (suc r))))))) lo hi a b c d = let z : ⊥ = omega arith in absurd z
+  store_bytes lo hi = rw (le-leb 1 b lo, le-leb b (shelf t).servers hi)

@@ -2,12 +2,11 @@
 -- tells. Each is the ordered list of tests with the known ones put in. Assumes nothing.
 use Rattle.std.specs.Prelude.{Result, Err}
 use mathlib.Core.Path.{◌≡◌, refl, sym, ap, subst, ◌∙◌}
-use mathlib.Core.Bool.{Bool, true, false, cond, true≢false}
+use mathlib.Core.Bool.{Bool, true, false}
 use mathlib.Core.List.{List, []}
 use mathlib.Core.Option.{Option, none, some}
-use Prim.Native.Nat.{ℕ, ◌*◌, ◌≤◌, ◌<◌}
+use Prim.Native.Nat.{ℕ, ◌≤◌, ◌<◌}
 use native.Mathlib.Omega.{arith}
-use lib.Dec.{eqb}
 use lib.ListN.{length, drop}
 use borrow.Author.Tests.{eq-eqb, ne_eqb, lt-ltb}
 use Rattle.cluster.specs.Config.{shelf}
@@ -24,7 +23,7 @@ use Rattle.protocol.specs.Primitives.{real}
 use Rattle.protocol.specs.Rules.{ByServer}
 use Rattle.protocol.specs.Client.{bad_faults, bad_client_def, of_write, take_refusal}
 use Rattle.protocol.specs.View.{marked, kept_size, candidate_at, candidate_slot}
-use Rattle.protocol.specs.ClientBytes.{Took, key_of, in_hand, awaited, client_take}
+use Rattle.protocol.specs.ClientBytes.{Took, key_of, awaited, client_take}
 use Rattle.client.specs.Rounds.{took, take_in_def, high_in, take_by_rounds}
 use Rattle.client.proofs.TakeSame.{same_take}
 use Rattle.protocol.proofs.Whole.{kind-decoded}
@@ -36,7 +35,6 @@ use Rattle.client.specs.declared.answers.Answered.{Answered}
 use Rattle.client.specs.Answers.{answered}
 use Rattle.client.specs.Core.{core_take}
 use Rattle.client.specs.Steps.{reply_refusal_def, Ready, TakesAs}
-use Rattle.client.proofs.Tests.{hand-round}
 use Rattle.client.proofs.TakeRefusals.{awaited-reply, head-refused, short-refused, never-high}
 use Rattle.client.proofs.TakenReplies.{body_at_lem, printed}
 
@@ -59,10 +57,6 @@ module _ (t client : ℕ) (calls kind : ℕ) (replied : ByServer Bool) (high : �
       → take_refusal (shelf t) client none calls kind replied high room ≡ 7
   unfolding take_refusal
   number_broken f e = rw (f, e)
-
-in-hand : (b : Bool) (n : ℕ) → eqb (cond b n 0) 0 ≡ false → b ≡ true
-in-hand true n e = refl
-in-hand false n e = absurd (true≢false e)
 
 module _ (t client : ℕ) (writers : List ℕ) (keys : List (List ℕ)) (c : Call) (kept reply output : List ℕ) where
   abbrev whole : Took
@@ -136,10 +130,6 @@ module _ (t client : ℕ) (writers : List ℕ) (keys : List (List ℕ)) (c : Cal
 -- ---- a reply that no test of its head refuses
 
 module _ (t client : ℕ) (c : Call) (reply : List ℕ) (h : Head) (y : Ready t client c reply h) where
-  pub ready-round : (1 ≤ c.tally.round) × (c.tally.round ≤ 6)
-  unfolding awaited
-  ready-round = hand-round c (in-hand (in_hand c) (2 * c.tally.round) (awaited-reply t client c h y.awaited).pending)
-
   -- a candidate's bytes fit its slot
   pub collect-length : Bytes reply → c.tally.round ≡ 4 → length (drop head_size reply) ≤ candidate_slot
   unfolding packet_at body_at shelf

@@ -1,6 +1,7 @@
 -- What private functions promise each other; no public contract names these.
 -- Steps of the code on the way to the definitions of crate protocol.
-use Rattle.std.specs.Prelude.{◌≡◌, Bool, false, not, ◌&&◌, ◌||◌, List, [], ◌∷◌, ◌++◌, ℕ, zero, suc, ◌+◌, ◌*◌, eqb, length, Result}
+use Rattle.std.specs.Prelude.{◌≡◌, Bool, false, not, ◌&&◌, ◌||◌, List, [], ◌∷◌, ◌++◌, ℕ, zero, suc, ◌+◌, ◌*◌, eqb, length, Result, Some, None}
+use Rattle.std.specs.declared.option.Option.{Option}
 use Rattle.std.proofs.Math.Option.{some}
 use Rattle.cluster.specs.Config.{shelf}
 use Rattle.cluster.specs.Refusals.{refuse, first_of}
@@ -9,6 +10,8 @@ use Rattle.sha256.specs.Sha256.{sha256}
 use Rattle.erasure.specs.Fragments.{fragment}
 use Rattle.protocol.specs.declared.Call.{Call}
 use Rattle.protocol.specs.declared.Head.{Head}
+use Rattle.protocol.specs.declared.rounds.Round.{Round}
+use Rattle.protocol.specs.Kinds.{kind_number, round_number, reply_of}
 use Rattle.protocol.specs.Values.{run_of}
 use Rattle.format.specs.Format.{print2}
 use Rattle.protocol.specs.Packet.{decode, candidate_f}
@@ -22,6 +25,15 @@ use Rattle.client.specs.Answers.{answered}
 use Rattle.client.specs.Rounds.{take_by_rounds}
 use Rattle.client.specs.declared.answers.Answered.{Answered}
 use Rattle.cluster.specs.declared.Refusal.{Refusal}
+
+-- a round's number in a state, and the kind that it awaits: 0 with no call in hand
+abbrev pub number_of : Option Round → ℕ
+number_of None = 0
+number_of (Some r) = round_number r
+
+abbrev pub awaited_by : Option Round → ℕ
+awaited_by None = 0
+awaited_by (Some r) = kind_number (reply_of r)
 
 -- another shelf's packet, or another client's
 abbrev pub foreign : ℕ → ℕ → Head → Bool

@@ -5,9 +5,12 @@ ghost use Rattle.cluster.specs.Ranges.{top_faults, top_length, content_room, mos
 ghost use Rattle.protocol.specs.declared.Taken.TheVariants as taken;
 ghost use Rattle.format.specs.Reading.{over};
 ghost use Rattle.protocol.specs.ClientBytes.{fresh};
+ghost use Rattle.protocol.specs.Kinds.{round_number};
 ghost use Rattle.client.specs.Rounds.{noted, ends, with_tally_def};
+ghost use Rattle.client.specs.Steps.{number_of};
 
 use crate::{kept, rounds};
+use protocol::rounds::Round;
 
 // The answer to a reply, and the call after it.
 #[derive(Clone, Copy)]
@@ -34,25 +37,25 @@ pub(crate) fn note_reply(call: protocol::Call, t: usize, server: usize) -> proto
     rounds::with_tally(call, rounds::note(t, call.tally, server))
 }
 
-// The next round, or the end of the call: 0.
-pub(crate) fn enter(call: protocol::Call, round: u8) -> protocol::Call
-    ensures { result ≡ with_tally_def call (fresh round) }
+// The next round, or the end of the call: none.
+pub(crate) fn enter(call: protocol::Call, round: Option<Round>) -> protocol::Call
+    ensures { result ≡ with_tally_def call (fresh (number_of round)) }
 {
     rounds::with_tally(call, rounds::fresh_tally(round))
 }
 
 // The reply is noted, or it ends its round and the next one begins.
-pub(crate) fn step(call: protocol::Call, t: usize, server: usize, next: u8) -> Answered
+pub(crate) fn step(call: protocol::Call, t: usize, server: usize, next: Round) -> Answered
     requires { (t ≤ top_faults) × ((1 ≤ server) × (server ≤ most_servers)) }
     ensures { result ≡ record {
       answer = taken.More;
       call = with_tally_def call
-          (cond (ends (shelf t) call server) (fresh next) (noted (shelf t) call.tally server));
+          (cond (ends (shelf t) call server) (fresh (round_number next)) (noted (shelf t) call.tally server));
     } }
 {
     let noted = note_reply(call, t, server);
     if rounds::is_full(t, noted.tally) {
-        return more(enter(call, next));
+        return more(enter(call, Some(next)));
     }
     more(noted)
 }
@@ -74,6 +77,6 @@ pub(crate) fn deliver(
     kept::write_at(out, 0, content);
     Answered {
         answer: protocol::Taken::Read(label.number, label.writer, content.len() as u16),
-        call: enter(call, 0),
+        call: enter(call, None),
     }
 }

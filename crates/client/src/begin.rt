@@ -1,15 +1,18 @@
 // Beginning a call, and giving it up.
-ghost use Rattle.std.specs.Prelude.{◌≡◌, suc, ◌≤◌, ◌+◌, ◌*◌, length, replicate};
+ghost use Rattle.std.specs.Prelude.{◌≡◌, cond, suc, ◌≤◌, ◌+◌, ◌*◌, eqb, length, replicate};
 ghost use Rattle.cluster.specs.Ranges.{top_length, top_number, most_servers};
 ghost use Rattle.protocol.specs.Values.{nonce_size};
 ghost use Rattle.protocol.specs.View.{nonce_place, candidates_place, candidate_slot, kept_size};
 ghost use Rattle.protocol.specs.ClientBytes.{fresh, give_up_def};
+ghost use Rattle.protocol.specs.Kinds.{round_number};
+ghost use Rattle.protocol.specs.declared.Aborted.TheVariants as aborts;
 ghost use Rattle.format.specs.Reading.{put};
 ghost use Rattle.client.specs.Answers.{stopped, begun};
 ghost use Rattle.client.specs.Core.{core_write, core_read};
 
 use crate::{Party, kept, refusals, rounds};
 use cluster::Refusal;
+use protocol::rounds::Round;
 
 // What giving up answers, and the call after it. Not one generic type with answers::Answered: no code is the same for both, and it would be no plainer.
 #[derive(Clone, Copy)]
@@ -18,32 +21,39 @@ pub struct Stopped {
     pub call: protocol::Call,
 }
 
+// What giving up in a round answers.
+fn given_up(round: Round) -> protocol::Aborted
+    ensures { result ≡ cond (eqb (round_number round) 3) aborts.InComplete aborts.Before }
+{
+    match round {
+        Round::Complete => protocol::Aborted::InComplete,
+        Round::Clock | Round::Store | Round::Collect | Round::Filter | Round::Repair => {
+            protocol::Aborted::Before
+        }
+    }
+}
+
 // Giving up leaves no call in hand; the call number and the last stamp made stay.
 pub fn give_up_in(call: protocol::Call, party: Party) -> Result<Stopped, Refusal>
     ensures { stopped call result ≡ give_up_def party.t party.client call }
 {
-    refusals::abort_refusal(party, call)?;
-    let answer = if call.tally.round == protocol::rounds::COMPLETE {
-        protocol::Aborted::InComplete
-    } else {
-        protocol::Aborted::Before
-    };
+    let round = refusals::round_to_abort(party, call)?;
     Ok(Stopped {
-        answer,
-        call: rounds::with_tally(call, rounds::fresh_tally(0)),
+        answer: given_up(round),
+        call: rounds::with_tally(call, rounds::fresh_tally(None)),
     })
 }
 
 // The next call, in its first round.
-fn next_call(call: protocol::Call, high: u32, length: u16, round: u8) -> protocol::Call
+fn next_call(call: protocol::Call, high: u32, length: u16, round: Round) -> protocol::Call
     requires { call.number + 1 ≤ top_number }
-    ensures { result ≡ record { number = suc call.number; last = call.last; high = high; length = length; tally = fresh round } }
+    ensures { result ≡ record { number = suc call.number; last = call.last; high = high; length = length; tally = fresh (round_number round) } }
 {
     protocol::Call {
         number: call.number + 1,
         high,
         length,
-        tally: rounds::fresh_tally(round),
+        tally: rounds::fresh_tally(Some(round)),
         ..call
     }
 }
@@ -72,12 +82,7 @@ pub fn begin_write_in(
     }
     refusals::write_refusal(party, content.len(), call)?;
     keep_write(kept, content, nonce);
-    Ok(next_call(
-        call,
-        call.last,
-        content.len() as u16,
-        protocol::rounds::CLOCK,
-    ))
+    Ok(next_call(call, call.last, content.len() as u16, Round::Clock))
 }
 
 // Every candidate's slot becomes blank.
@@ -102,5 +107,5 @@ pub fn begin_read_in(
     }
     refusals::read_refusal(party, call)?;
     clear_slots(kept);
-    Ok(next_call(call, call.high, call.length, protocol::rounds::COLLECT))
+    Ok(next_call(call, call.high, call.length, Round::Collect))
 }

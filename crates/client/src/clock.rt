@@ -11,6 +11,7 @@ ghost use Rattle.client.specs.Steps.{write_made, Ready, TakesAs};
 use crate::answers::Answered;
 use crate::{Party, answers, prepare, rounds, stamps};
 use cluster::Refusal;
+use protocol::rounds::Round;
 
 // Store begins, with the number of the stamp made.
 fn enter_store(call: protocol::Call, high: u32) -> protocol::Call
@@ -19,7 +20,7 @@ fn enter_store(call: protocol::Call, high: u32) -> protocol::Call
 {
     protocol::Call {
         last: high + 1,
-        tally: rounds::fresh_tally(protocol::rounds::STORE),
+        tally: rounds::fresh_tally(Some(Round::Store)),
         ..call
     }
 }

@@ -13,6 +13,7 @@ ghost use Rattle.client.specs.Filter.{repair_bytes, repair_call, found_at, judge
 
 use crate::answers::Answered;
 use crate::{Party, answers, kept, rounds};
+use protocol::rounds::Round;
 
 // The reply's body at its server's slot.
 fn put_reply(kept: &mut [u8], server: usize, body: &[u8])
@@ -64,10 +65,7 @@ fn put_repair(bytes: &mut [u8], kept: &[u8], led: Led, n: usize)
 fn repairing(call: protocol::Call, n: u16) -> Answered
     ensures { result ≡ record { answer = taken.More; call = repair_call call n } }
 {
-    answers::more(answers::enter(
-        protocol::Call { length: n, ..call },
-        protocol::rounds::REPAIR,
-    ))
+    answers::more(answers::enter(protocol::Call { length: n, ..call }, Some(Round::Repair)))
 }
 
 // Line 155. Amended: the content waits, and the candidate has the tags of the proven group.
@@ -129,7 +127,7 @@ fn judge(call: protocol::Call, kept: &mut [u8], t: usize, out: &mut [u8]) -> Ans
         decide::Decision::Wait => answers::more(call),
         decide::Decision::Blank => Answered {
             answer: protocol::Taken::Blank,
-            call: answers::enter(call, 0),
+            call: answers::enter(call, None),
         },
         decide::Decision::Found(slot, server, n) => {
             let content = wire::bytes::part(&room, 0, n);

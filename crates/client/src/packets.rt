@@ -1,11 +1,11 @@
 // The packet of the round, made from the kept bytes as they are.
-ghost use Rattle.std.specs.Prelude.{◌≡◌, true, [], ◌++◌, ◌≤◌, ◌-◌, length};
+ghost use Rattle.std.specs.Prelude.{◌≡◌, [], ◌++◌, ◌≤◌, ◌-◌, length};
 ghost use Rattle.cluster.specs.Config.{shelf};
 ghost use Rattle.cluster.specs.Ranges.{top_faults, top_client, most_servers, packet_room};
 ghost use Rattle.cluster.specs.Refusals.{outcome_told};
 ghost use Rattle.protocol.specs.Packet.{head_f, stamp_f, share_f, candidate_f, candidates_f, encode};
 ghost use Rattle.protocol.specs.Client.{made};
-ghost use Rattle.protocol.specs.ClientBytes.{in_hand};
+ghost use Rattle.protocol.specs.Kinds.{kind_number, round_number};
 ghost use Rattle.protocol.specs.Rules.{gather};
 ghost use Rattle.protocol.specs.View.{kept_size, view, chosen_of, share_at, reply_slot_of, candidates_in};
 ghost use Rattle.wire.specs.Places.{share_size_def};
@@ -14,14 +14,16 @@ ghost use Rattle.client.specs.Steps.{whole_packet};
 
 use crate::{Party, kept, list, refusals};
 use cluster::Refusal;
+use protocol::kinds::Kind;
+use protocol::rounds::Round;
 
 // The head of a packet of a kind.
-fn head_of(call: protocol::Call, kind: u8, party: Party, server: usize) -> protocol::Head
+fn head_of(call: protocol::Call, kind: Kind, party: Party, server: usize) -> protocol::Head
     requires { (party.t ≤ top_faults) × ((party.client ≤ top_client) × (server ≤ most_servers)) }
-    ensures { result ≡ record { kind = kind; client = party.client; server = server; t = party.t; call = call.number } }
+    ensures { result ≡ record { kind = kind_number kind; client = party.client; server = server; t = party.t; call = call.number } }
 {
     protocol::Head {
-        kind,
+        kind: kind.number(),
         client: party.client as u8,
         server: server as u8,
         t: party.t as u8,
@@ -89,30 +91,6 @@ fn make_store(
     wire::make::make_packet(head, stamp, wire::bytes::part(slot, 0, size), out)
 }
 
-// The packet of any round but filter.
-fn make_plain(
-    call: protocol::Call,
-    kept: &[u8],
-    party: Party,
-    server: usize,
-    out: &mut [u8],
-) -> Result<usize, Refusal>
-    requires { (party.t ≤ top_faults) × ((party.client ≤ top_client) × ((1 ≤ server) × ((server ≤ (shelf party.t).servers)
-        × ((length kept.now ≡ kept_size) × ((packet_room ≤ length out.old) × ((in_hand call ≡ true) × (call.tally.round ≡ 5 → ⊥))))))) }
-    ensures { record { result = outcome_told result; output = out.new } ≡ whole_packet
-        (encode (made party.t party.client (view (shelf party.t) call kept.now) server)) out.old }
-{
-    let round = call.tally.round;
-    let head = head_of(call, refusals::request_kind(round), party, server);
-    match round {
-        protocol::rounds::STORE => make_store(head, kept, party.t, server, out),
-        protocol::rounds::COMPLETE | protocol::rounds::REPAIR => make_chosen(
-            head, kept, party.t, out,
-        ),
-        _ => make_empty(head, out),
-    }
-}
-
 // The list as collect left it. Its count is known once it is written, by the bytes that it took: no slot is looked at twice.
 fn make_filter(
     head: protocol::Head,
@@ -133,8 +111,9 @@ fn make_filter(
     Ok(n)
 }
 
-// The packet of any round.
+// The packet of the pending round.
 fn make_round(
+    round: Round,
     call: protocol::Call,
     kept: &[u8],
     party: Party,
@@ -142,19 +121,17 @@ fn make_round(
     out: &mut [u8],
 ) -> Result<usize, Refusal>
     requires { (1 ≤ party.t) × ((party.t ≤ top_faults) × ((party.client ≤ top_client) × ((1 ≤ server) × ((server ≤ (shelf party.t).servers)
-        × ((length kept.now ≡ kept_size) × ((packet_room ≤ length out.old) × (in_hand call ≡ true))))))) }
+        × ((length kept.now ≡ kept_size) × ((packet_room ≤ length out.old) × (round_number round ≡ call.tally.round))))))) }
     ensures { record { result = outcome_told result; output = out.new } ≡ whole_packet
         (encode (made party.t party.client (view (shelf party.t) call kept.now) server)) out.old }
 {
-    if call.tally.round == protocol::rounds::FILTER {
-        return make_filter(
-            head_of(call, protocol::kinds::FILTER, party, server),
-            kept,
-            party.t,
-            out,
-        );
+    let head = head_of(call, round.request(), party, server);
+    match round {
+        Round::Clock | Round::Collect => make_empty(head, out),
+        Round::Store => make_store(head, kept, party.t, server, out),
+        Round::Complete | Round::Repair => make_chosen(head, kept, party.t, out),
+        Round::Filter => make_filter(head, kept, party.t, out),
     }
-    make_plain(call, kept, party, server, out)
 }
 
 // A refusal, which writes nothing; or the packet's length.
@@ -171,6 +148,6 @@ pub fn make_in(
     if kept.len() != wire::kept::KEPT {
         return Err(Refusal::WrongSize);
     }
-    refusals::make_refusal(party, server, call, out.len())?;
-    make_round(call, kept, party, server, out)
+    let round = refusals::round_to_make(party, server, call, out.len())?;
+    make_round(round, call, kept, party, server, out)
 }

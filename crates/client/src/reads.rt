@@ -11,6 +11,7 @@ ghost use Rattle.client.specs.Rounds.{noted, ends, with_tally_def};
 
 use crate::answers::Answered;
 use crate::{answers, kept, rounds};
+use protocol::rounds::Round;
 
 // Lines 148 to 150. Amended: filter is sent even when the list is empty.
 pub(crate) fn take_collect(
@@ -33,7 +34,7 @@ pub(crate) fn take_collect(
         wire::kept::CANDIDATES + wire::kept::CANDIDATE_SLOT * (server - 1),
         body,
     );
-    answers::step(call, t, server, protocol::rounds::FILTER)
+    answers::step(call, t, server, Round::Filter)
 }
 
 // Line 159.

@@ -1,48 +1,41 @@
 // What refuses a step. Each is a function of numbers; the tests stand in document 01's order.
-ghost use Rattle.std.specs.Prelude.{◌≡◌, ◌≤◌, ◌-◌, ◌*◌};
+ghost use Rattle.std.specs.Prelude.{◌≡◌, ◌≤◌};
+ghost use Rattle.std.specs.Option.{ForSome};
+ghost use Rattle.std.specs.Result.{ForOk};
 ghost use Rattle.cluster.specs.Config.{shelf};
 ghost use Rattle.cluster.specs.Ranges.{top_faults};
 ghost use Rattle.cluster.specs.Refusals.{number_told};
 ghost use Rattle.protocol.specs.Client.{bad_client_def, of_write, write_refusal_def, read_refusal_def, make_refusal_def, abort_refusal_def};
 ghost use Rattle.protocol.specs.ClientBytes.{in_hand, awaited};
+ghost use Rattle.protocol.specs.Kinds.{round_number};
+ghost use Rattle.client.specs.Steps.{awaited_by};
 
 use crate::Party;
 use cluster::Refusal;
+use protocol::rounds::Round;
 
 // A call is in hand.
 fn is_pending(call: protocol::Call) -> bool
     ensures { result ≡ in_hand call }
 {
-    (protocol::rounds::CLOCK..=protocol::rounds::REPAIR).contains(&call.tally.round)
+    Round::of(call.tally.round).is_some()
 }
 
-// The kind of a round's request; its reply has the next.
-pub(crate) fn request_kind(round: u8) -> u8
-    requires { (1 ≤ round) × (round ≤ 6) }
-    ensures { result ≡ 2 * round - 1 }
+// The pending round, if a call is in hand.
+pub(crate) fn pending(call: protocol::Call) -> Option<Round>
+    ensures kind { awaited_by result ≡ awaited call }
+    ensures number { ForSome result (λ round. round_number round ≡ call.tally.round) }
 {
-    2 * round - 1
+    Round::of(call.tally.round)
 }
 
-// The kind that the round awaits, 0 with no call in hand.
-pub(crate) fn awaited_kind(call: protocol::Call) -> u8
-    ensures { result ≡ awaited call }
+// Refusal 5 in the pending round: a client outside 1 to 16; in a write's rounds one outside 1 to 8.
+pub(crate) fn bad_client(round: Option<Round>, client: usize) -> bool
+    ensures { result ≡ bad_client_def (of_write (awaited_by round)) client }
 {
-    if is_pending(call) {
-        return request_kind(call.tally.round) + 1;
-    }
-    0
-}
-
-// Refusal 5 in a round that awaits the kind: a client outside 1 to 16; in a write's rounds one outside 1 to 8.
-pub(crate) fn bad_client(kind: u8, client: usize) -> bool
-    ensures { result ≡ bad_client_def (of_write kind) client }
-{
-    let writes = (protocol::kinds::CLOCK_REPLY..=protocol::kinds::COMPLETE_REPLY).contains(&kind);
-    let top = if writes {
-        cluster::TOP_WRITER
-    } else {
-        cluster::TOP_CLIENT
+    let top = match round {
+        Some(Round::Clock | Round::Store | Round::Complete) => cluster::TOP_WRITER,
+        Some(Round::Collect | Round::Filter | Round::Repair) | None => cluster::TOP_CLIENT,
     };
     cluster::outside(1, top, client)
 }
@@ -94,6 +87,33 @@ pub(crate) fn servers(t: usize) -> usize
     cluster::servers(t as u8)
 }
 
+// The pending round, or what refuses its packet for a server.
+pub(crate) fn round_to_make(
+    party: Party,
+    server: usize,
+    call: protocol::Call,
+    room: usize,
+) -> Result<Round, Refusal>
+    ensures refusal { number_told result ≡ make_refusal_def (shelf party.t) party.client server (awaited call) room }
+    ensures round { ForOk result (λ round. round_number round ≡ call.tally.round) }
+{
+    let pending = pending(call);
+    if cluster::outside(1, cluster::TOP_FAULTS, party.t) {
+        return Err(Refusal::Faults);
+    }
+    if cluster::outside(1, servers(party.t), server) {
+        return Err(Refusal::Server);
+    }
+    if bad_client(pending, party.client) {
+        return Err(Refusal::Client);
+    }
+    let round = pending.ok_or(Refusal::Hand)?;
+    if room < cluster::PACKET_ROOM {
+        return Err(Refusal::Room);
+    }
+    Ok(round)
+}
+
 // What refuses the packet of the pending round for a server.
 pub fn make_refusal(
     party: Party,
@@ -103,37 +123,21 @@ pub fn make_refusal(
 ) -> Result<(), Refusal>
     ensures { number_told result ≡ make_refusal_def (shelf party.t) party.client server (awaited call) room }
 {
-    let kind = awaited_kind(call);
-    if cluster::outside(1, cluster::TOP_FAULTS, party.t) {
-        return Err(Refusal::Faults);
-    }
-    if cluster::outside(1, servers(party.t), server) {
-        return Err(Refusal::Server);
-    }
-    if bad_client(kind, party.client) {
-        return Err(Refusal::Client);
-    }
-    if kind == 0 {
-        return Err(Refusal::Hand);
-    }
-    if room < cluster::PACKET_ROOM {
-        return Err(Refusal::Room);
-    }
+    round_to_make(party, server, call, room)?;
     Ok(())
 }
 
-pub(crate) fn abort_refusal(party: Party, call: protocol::Call) -> Result<(), Refusal>
-    ensures { number_told result ≡ abort_refusal_def (shelf party.t) party.client (awaited call) }
+// The pending round, or what refuses to give it up.
+pub(crate) fn round_to_abort(party: Party, call: protocol::Call) -> Result<Round, Refusal>
+    ensures refusal { number_told result ≡ abort_refusal_def (shelf party.t) party.client (awaited call) }
+    ensures round { ForOk result (λ round. round_number round ≡ call.tally.round) }
 {
-    let kind = awaited_kind(call);
+    let pending = pending(call);
     if cluster::outside(1, cluster::TOP_FAULTS, party.t) {
         return Err(Refusal::Faults);
     }
-    if bad_client(kind, party.client) {
+    if bad_client(pending, party.client) {
         return Err(Refusal::Client);
     }
-    if kind == 0 {
-        return Err(Refusal::Hand);
-    }
-    Ok(())
+    pending.ok_or(Refusal::Hand)
 }

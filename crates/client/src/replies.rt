@@ -1,12 +1,17 @@
 // Whether a packet is a reply that the pending call awaits.
 ghost use Rattle.std.specs.Prelude.{◌≡◌, ◌≤◌};
+ghost use Rattle.std.specs.Result.{ForOk};
 ghost use Rattle.cluster.specs.Ranges.{most_servers};
 ghost use Rattle.cluster.specs.Refusals.{number_told};
+ghost use Rattle.protocol.specs.Kinds.{kind_number, round_number};
 ghost use Rattle.protocol.specs.View.{marked};
 ghost use Rattle.client.specs.Steps.{foreign, other, reply_refusal_def};
 
 use crate::{Party, refusals};
 use cluster::Refusal;
+use protocol::kinds::Kind;
+use protocol::rounds::Round;
+use wire::packet::Passed;
 
 // Another shelf's packet, or another client's.
 fn is_foreign(head: protocol::Head, party: Party) -> bool
@@ -24,31 +29,31 @@ fn is_marked(tally: protocol::Tally, server: u8) -> bool
 }
 
 // No reply of that call and kind, or of a server that has replied.
-fn is_other(head: protocol::Head, call: protocol::Call, kind: u8) -> bool
-    requires { (1 ≤ head.server) × (head.server ≤ most_servers) }
-    ensures { result ≡ other call kind head }
+fn is_other(passed: Passed, call: protocol::Call, kind: Kind) -> bool
+    requires { (1 ≤ passed.head.server) × (passed.head.server ≤ most_servers) × (kind_number passed.kind ≡ passed.head.kind) }
+    ensures { result ≡ other call (kind_number kind) passed.head }
 {
-    head.call != call.number || head.kind != kind || is_marked(call.tally, head.server)
+    passed.head.call != call.number
+        || passed.kind != kind
+        || is_marked(call.tally, passed.head.server)
 }
 
-// 8, 12, 13.
-pub(crate) fn reply_refusal(
-    head: protocol::Head,
+// The pending round, which awaits the reply; or what refuses it: 8, 12, 13.
+pub(crate) fn round_to_take(
+    passed: Passed,
     call: protocol::Call,
     party: Party,
-) -> Result<(), Refusal>
-    requires { (1 ≤ head.server) × (head.server ≤ most_servers) }
-    ensures { number_told result ≡ reply_refusal_def party.t party.client call head }
+) -> Result<Round, Refusal>
+    requires { (1 ≤ passed.head.server) × (passed.head.server ≤ most_servers) × (kind_number passed.kind ≡ passed.head.kind) }
+    ensures refusal { number_told result ≡ reply_refusal_def party.t party.client call passed.head }
+    ensures round { ForOk result (λ round. round_number round ≡ call.tally.round) }
 {
-    if is_foreign(head, party) {
+    if is_foreign(passed.head, party) {
         return Err(Refusal::Addressee);
     }
-    let kind = refusals::awaited_kind(call);
-    if kind == 0 {
-        return Err(Refusal::Hand);
-    }
-    if is_other(head, call, kind) {
+    let round = refusals::pending(call).ok_or(Refusal::Hand)?;
+    if is_other(passed, call, round.reply()) {
         return Err(Refusal::Reply);
     }
-    Ok(())
+    Ok(round)
 }

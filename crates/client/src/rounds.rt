@@ -6,15 +6,20 @@ ghost use Rattle.protocol.specs.Rules.{count_to};
 ghost use Rattle.protocol.specs.View.{marked};
 ghost use Rattle.protocol.specs.ClientBytes.{fresh};
 ghost use Rattle.client.specs.Rounds.{counted, noted, with_tally_def};
+ghost use Rattle.client.specs.Steps.{number_of};
 
 use crate::refusals;
+use protocol::rounds::Round;
 
-// A round begins; 0: no call is in hand.
-pub(crate) fn fresh_tally(round: u8) -> protocol::Tally
-    ensures { result ≡ fresh round }
+// A round begins; none: no call is in hand.
+pub(crate) fn fresh_tally(round: Option<Round>) -> protocol::Tally
+    ensures { result ≡ fresh (number_of round) }
 {
     protocol::Tally {
-        round,
+        round: match round {
+            Some(round) => round.number(),
+            None => 0,
+        },
         count: 0,
         marks: [0; cluster::MOST_SERVERS],
     }

@@ -27,7 +27,7 @@ unfolding shelf
 returns-then-bad_client c =
     let a = c.args in
     let w : bad_faults (shelf a.party.t) ≡ false = sym c.outside.ensures ∙ c.if-outside.false in
-    let v = rw c.awaited_kind.ensures at (sym c.bad_client.ensures ∙ c.if-bad_client.true) in
+    let v = rw c.pending.ensures.kind at (sym c.bad_client.ensures ∙ c.if-bad_client.true) in
     taken_in a.party.t a.party.client a.writers.now a.keys.now a.call a.kept.now a.reply.now a.out.now (Err refusals.Client) a.kept.now a.out.now
     (search rules) c.if-kept-ne-KEPT.false
     (takes-refused a.party.t a.party.client a.writers.now a.keys.now a.call a.kept.now a.reply.now a.out.now refusals.Client
@@ -37,7 +37,7 @@ pub take_reply-requires : goal.take_reply-requires
 unfolding shelf
 take_reply-requires c = (
   sym c.outside.ensures ∙ c.if-outside.false,
-  (rw c.awaited_kind.ensures at (sym c.bad_client.ensures ∙ c.if-bad_client.false), c.if-kept-ne-KEPT.false),
+  (rw c.pending.ensures.kind at (sym c.bad_client.ensures ∙ c.if-bad_client.false), c.if-kept-ne-KEPT.false),
 )
 
 pub returns : goal.returns
