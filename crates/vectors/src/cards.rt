@@ -1,5 +1,7 @@
 // The bench cards that are run: a history that is full, and the lengths of a content.
 use cluster::Refusal;
+use protocol::codes::Code;
+use protocol::kinds::Kind;
 use std::io;
 
 // Bytes of a fragment of the longest content at t = 1, and of its store: head, stamp, length, fragment, 4 digests, nonce digest, 4 tags.
@@ -23,9 +25,9 @@ fn show(rt: &impl Print, name: &str, got: u64, card: u64) -> io::Result<()> {
 }
 
 // A packet's head by client 1 to server 1 at t = 1.
-fn put_kind(packet: &mut [u8], kind: u8) -> usize {
+fn put_kind(packet: &mut [u8], kind: Kind) -> usize {
     let head = protocol::Head {
-        kind,
+        kind: kind.number(),
         client: 1,
         server: 1,
         t: 1,
@@ -36,7 +38,7 @@ fn put_kind(packet: &mut [u8], kind: u8) -> usize {
 
 // A store by client 1 to server 1 at t = 1, with the stamp of a number. Store tests no tag and no digest, so that these are zeros.
 fn put_store(packet: &mut [u8], number: u32) {
-    let a = put_kind(packet, protocol::kinds::STORE);
+    let a = put_kind(packet, Kind::Store);
     let stamp = protocol::Stamp::new(number, 1, [0; hmac::TAG]);
     let b = wire::make::put_stamp(packet, a, stamp);
     wire::make::put_number2(packet, b, cluster::TOP_LENGTH as u16);
@@ -76,7 +78,7 @@ fn told(answer: Result<u8, Refusal>) -> u64 {
 fn fill(memory: &mut [u8]) -> u64 {
     let mut kept = 0;
     for number in 1..=32 {
-        if answer(memory, number) == Ok(0) {
+        if answer(memory, number) == Ok(Code::Kept.number()) {
             kept += 1;
         }
     }
@@ -103,7 +105,7 @@ fn handed(rt: &impl Print) -> io::Result<()> {
 // The server completes a write with a stamp of client 1, which it does without a test.
 fn complete(memory: &mut [u8]) {
     let mut packet = [0; COMPLETE];
-    let a = put_kind(&mut packet, protocol::kinds::COMPLETE);
+    let a = put_kind(&mut packet, Kind::Complete);
     let stamp = protocol::Stamp::new(1, 1, [0; hmac::TAG]);
     wire::make::put_stamp(&mut packet, a, stamp);
     let _ = reply(memory, &packet);
@@ -112,7 +114,7 @@ fn complete(memory: &mut [u8]) {
 // 1 where the candidate that a server collects is blank, or 0.
 fn collected(memory: &mut [u8]) -> u64 {
     let mut packet = [0; wire::sizes::HEAD];
-    put_kind(&mut packet, protocol::kinds::COLLECT);
+    put_kind(&mut packet, Kind::Collect);
     let blank = reply(memory, &packet).is_ok_and(|out| wire::values::head_at(wire::bytes::rest(
         &out,
         wire::sizes::HEAD,
