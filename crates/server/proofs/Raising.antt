@@ -14,6 +14,7 @@ use Rattle.cluster.specs.declared.Outcome.{Outcome}
 use Rattle.protocol.specs.declared.Head.{Head}
 use Rattle.format.specs.Format.{Bytes}
 use Rattle.protocol.specs.Values.{Candidate, below, stamp_size, candidate_size_def}
+use Rattle.protocol.specs.declared.kinds.Kind.TheVariants as kind
 use Rattle.protocol.specs.Packet.{candidate_f, any_candidate_f, complete, head_size, decode}
 use Rattle.protocol.specs.Memory.{encode_memory, latest_place}
 use Rattle.protocol.specs.Primitives.{real}
@@ -121,7 +122,7 @@ module _ {d : List ℕ} {told : Opened} (o : OpenedAs d told) (bs : Bytes d) (x 
 module _ (d packet : List ℕ) (ps : Bytes packet) (output : List ℕ) (h : Head) where
   pub complete-answers : {x m out : List ℕ} {r : Outcome} → x ≡ drop head_size packet → m ≡ raised_bytes d x
       → record { result = r; output = out } ≡ packet_step (reply_head_def h 6) [] [] output
-      → AnswersFor 5 d packet output h (record { result = r; memory = m; output = out })
+      → AnswersFor kind.Complete d packet output h (record { result = r; memory = m; output = out })
   unfolding body_at act packet_at
   complete-answers {x} {m} {out} {r} c e w key told o own dec k room =
       let y : List ℕ = drop head_size packet in

@@ -10,6 +10,7 @@ use Rattle.cluster.specs.Config.{shelf}
 use Rattle.cluster.specs.declared.Outcome.{Outcome}
 use Rattle.protocol.specs.declared.Head.{Head}
 use Rattle.format.specs.Format.{Bytes}
+use Rattle.protocol.specs.declared.kinds.Kind.TheVariants as kind
 use Rattle.protocol.specs.Packet.{repair, head_size, decode}
 use Rattle.protocol.specs.Memory.{encode_memory}
 use Rattle.protocol.specs.Primitives.{real}
@@ -47,7 +48,7 @@ module _ (d key : List ℕ) (told : Opened) (x : List ℕ) {r : Bool} (test : Va
 module _ (d key packet : List ℕ) (ps : Bytes packet) (output : List ℕ) (h : Head) (told : Opened) where
   pub repair-answers : {x m out : List ℕ} {r : Outcome} → x ≡ drop head_size packet → RaisedAs d key told x m
       → record { result = r; output = out } ≡ packet_step (reply_head_def h 12) [] [] output
-      → AnswersAs 11 d key packet output h told (record { result = r; memory = m; output = out })
+      → AnswersAs kind.Repair d key packet output h told (record { result = r; memory = m; output = out })
   unfolding body_at act packet_at
   repair-answers {x} {m} {out} {r} c u w o own dec k room =
       let y : List ℕ = drop head_size packet in

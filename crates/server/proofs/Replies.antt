@@ -11,6 +11,7 @@ use Rattle.cluster.specs.declared.Outcome.{Outcome}
 use Rattle.protocol.specs.declared.Head.{Head}
 use Rattle.format.specs.Format.{Bytes, or_blank}
 use Rattle.protocol.specs.Values.{stamp_size, candidate_size_def}
+use Rattle.protocol.specs.declared.kinds.Kind.TheVariants as kind
 use Rattle.protocol.specs.Packet.{Body, Packet, BodyOk, PacketOk, clock, collect, kind_of, print_body, any_stamp_f, head_size, decode, encode}
 use Rattle.protocol.specs.Memory.{encode_memory, latest_place}
 use Rattle.protocol.specs.Primitives.{real}
@@ -135,7 +136,7 @@ headed h k output first second q w = w ∙ ap (λ (y : Head). packet_step y firs
 
 module _ (d : List ℕ) (output : List ℕ) (h : Head) {body : List ℕ} {r : Outcome} {out : List ℕ} where
   pub clock-answers : body ≡ bytes_at d latest_place stamp_size → record { result = r; output = out } ≡ packet_step (reply_head_def h 2) body [] output
-      → AnswersAll 1 d output h (record { result = r; memory = d; output = out })
+      → AnswersAll kind.Clock d output h (record { result = r; memory = d; output = out })
   unfolding body_at act server_in any_stamp_f or_blank candidate_at
   clock-answers f w packet key told o own dec k room =
       let answer : Served = record { result = r; memory = d; output = out } in
@@ -145,7 +146,7 @@ module _ (d : List ℕ) (output : List ℕ) (h : Head) {body : List ℕ} {r : Ou
 
   pub collect-answers : {z : ℕ} → z ≡ candidate_size_def (shelf h.t) → body ≡ bytes_at d latest_place z
       → record { result = r; output = out } ≡ packet_step (reply_head_def h 8) body [] output
-      → AnswersAll 7 d output h (record { result = r; memory = d; output = out })
+      → AnswersAll kind.Collect d output h (record { result = r; memory = d; output = out })
   unfolding body_at act server_in
   collect-answers z f w packet key told o own dec k room =
       let answer : Served = record { result = r; memory = d; output = out } in

@@ -1,15 +1,15 @@
 -- Taking a packet: one equation for each way through the refusals, and the packets that none of them applies to.
 -- The refusals are an ordered list, so each test that was passed strikes its entry out. Assumes nothing.
-use mathlib.Core.Path.{◌≡◌, refl, sym, ap, ◌∙◌, subst}
-use mathlib.Core.Logic.{◌⊎◌, inl, inr, ⊎_elim}
+use mathlib.Core.Path.{◌≡◌, refl, sym, ap, ◌∙◌}
+use mathlib.Core.Logic.{◌⊎◌, inl, inr}
 use mathlib.Core.Bool.{Bool, true, false, cond, not, ◌&&◌, ◌||◌}
 use mathlib.Core.List.{List}
 use mathlib.Core.Option.{none, some}
 use Prim.Native.Nat.{ℕ, ◌≤◌, ◌<◌}
 use native.Mathlib.Omega.{arith}
-use lib.Dec.{T, ltb, eqb}
+use lib.Dec.{ltb, eqb}
 use lib.ListN.{length, drop}
-use borrow.Author.Tests.{eq-eqb, ne_eqb, eqb-true, eqb-false, lt-ltb, le-ltb, ltb-false}
+use borrow.Author.Tests.{eq-eqb, ne_eqb, eqb-true, lt-ltb, le-ltb, ltb-false}
 use Rattle.cluster.specs.Config.{shelf}
 use Rattle.cluster.specs.Ranges.{top_writer, memory_size, packet_room}
 use Rattle.cluster.specs.Refusals.{on_refusal}
@@ -17,12 +17,14 @@ use Rattle.cluster.specs.declared.Outcome.{Outcome}
 use Rattle.cluster.proofs.Tests.{and_both, refused_is}
 use Rattle.protocol.specs.declared.Head.{Head}
 use Rattle.protocol.specs.declared.Label.{Label}
-use Rattle.protocol.specs.Packet.{Body, head_size, decode}
+use Rattle.protocol.specs.declared.kinds.Kind.{Kind}
+use Rattle.protocol.specs.declared.kinds.Kind.TheVariants as kind
+use Rattle.protocol.specs.Kinds.{kind_number}
+use Rattle.protocol.specs.Packet.{head_size, decode}
 use Rattle.protocol.specs.Memory.{decode_memory}
 use Rattle.protocol.specs.Primitives.{real}
 use Rattle.protocol.specs.Server.{Server, memory_of, barred, server_refusal}
 use Rattle.protocol.specs.ServerBytes.{Served, server_in, turned_down_def, acted_on, server_take}
-use Rattle.format.proofs.Answers.{at-cond}
 use Rattle.wire.specs.Places.{body_at, packet_at, body_label}
 use Rattle.server.specs.declared.memory.Opened.{Opened}
 use Rattle.server.specs.Reads.{OpenedAs}
@@ -42,66 +44,49 @@ module _ (client writer : ℕ) where
   pub foreign-stamp : client ≤ top_writer → not (eqb writer client) ≡ foreign client writer
   foreign-stamp h = rw (le-ltb top_writer client h)
 
-module _ (h : Head) (packet : List ℕ) where
-  of-kind : (k : ℕ) → h.kind ≡ k → barred h.client (packet_at h packet).body ≡ barred h.client (body_at (shelf h.t) k (drop head_size packet))
+-- of a packet whose head's kind is k
+module _ (h : Head) (packet : List ℕ) {k : Kind} (its : kind_number k ≡ h.kind) where
+  pub kind-is : (j : Kind) → k ≡ j → h.kind ≡ kind_number j
+  kind-is j e = sym its ∙ ap kind_number e
+
+  of-kind : (j : Kind) → k ≡ j
+      → barred h.client (packet_at h packet).body ≡ barred h.client (body_at (shelf h.t) (kind_number j) (drop head_size packet))
   unfolding packet_at
-  of-kind k e = ap (λ (j : ℕ). barred h.client (body_at (shelf h.t) j (drop head_size packet))) e
+  of-kind j e = ap (λ (n : ℕ). barred h.client (body_at (shelf h.t) n (drop head_size packet))) (kind-is j e)
 
-  pub barred-reader : (h.kind ≡ 7) ⊎ ((h.kind ≡ 9) ⊎ (h.kind ≡ 11)) → false ≡ barred h.client (packet_at h packet).body
+  pub barred-reader : (k ≡ kind.Collect) ⊎ ((k ≡ kind.Filter) ⊎ (k ≡ kind.Repair)) → false ≡ barred h.client (packet_at h packet).body
   unfolding body_at barred
-  barred-reader (inl e) = sym (of-kind 7 e)
-  barred-reader (inr (inl e)) = sym (of-kind 9 e)
-  barred-reader (inr (inr e)) = sym (of-kind 11 e)
+  barred-reader (inl e) = sym (of-kind kind.Collect e)
+  barred-reader (inr (inl e)) = sym (of-kind kind.Filter e)
+  barred-reader (inr (inr e)) = sym (of-kind kind.Repair e)
 
-  pub barred-clock : h.kind ≡ 1 → ltb top_writer h.client ≡ barred h.client (packet_at h packet).body
+  pub barred-clock : k ≡ kind.Clock → ltb top_writer h.client ≡ barred h.client (packet_at h packet).body
   unfolding body_at barred
-  barred-clock e = sym (of-kind 1 e)
+  barred-clock e = sym (of-kind kind.Clock e)
 
-  -- the label's writer is that of the stamp that the body of kind k begins with
-  writer_of : (k : ℕ) → h.kind ≡ k → {l : Label} → l ≡ body_label (packet_at h packet).body
-      → l.writer ≡ (body_label (body_at (shelf h.t) k (drop head_size packet))).writer
+  -- the label's writer is that of the stamp that the body of kind j begins with
+  writer_of : (j : Kind) → k ≡ j → {l : Label} → l ≡ body_label (packet_at h packet).body
+      → l.writer ≡ (body_label (body_at (shelf h.t) (kind_number j) (drop head_size packet))).writer
   unfolding packet_at
-  writer_of k e f =
-      ap (λ (x : Label). x.writer) f ∙ ap (λ (j : ℕ). (body_label (body_at (shelf h.t) j (drop head_size packet))).writer) e
+  writer_of j e f =
+      ap (λ (x : Label). x.writer) f
+      ∙ ap (λ (n : ℕ). (body_label (body_at (shelf h.t) n (drop head_size packet))).writer) (kind-is j e)
 
-  pub barred-stamp : (h.kind ≡ 3) ⊎ (h.kind ≡ 5) → {l : Label} → l ≡ body_label (packet_at h packet).body → {r : Bool}
+  pub barred-stamp : (k ≡ kind.Store) ⊎ (k ≡ kind.Complete) → {l : Label} → l ≡ body_label (packet_at h packet).body → {r : Bool}
       → r ≡ foreign h.client l.writer → r ≡ barred h.client (packet_at h packet).body
   unfolding body_at body_label barred
-  barred-stamp (inl e) f p = p ∙ ap (foreign h.client) (writer_of 3 e f) ∙ sym (of-kind 3 e)
-  barred-stamp (inr e) f p = p ∙ ap (foreign h.client) (writer_of 5 e f) ∙ sym (of-kind 5 e)
+  barred-stamp (inl e) f p = p ∙ ap (foreign h.client) (writer_of kind.Store e f) ∙ sym (of-kind kind.Store e)
+  barred-stamp (inr e) f p = p ∙ ap (foreign h.client) (writer_of kind.Complete e f) ∙ sym (of-kind kind.Complete e)
 
-  -- every other kind is a reply
-  pub barred-other : (h.kind ≡ 1 → ⊥) → ((h.kind ≡ 3) ⊎ (h.kind ≡ 5) → ⊥) → ((h.kind ≡ 7) ⊎ ((h.kind ≡ 9) ⊎ (h.kind ≡ 11)) → ⊥)
-      → true ≡ barred h.client (packet_at h packet).body
-  unfolding packet_at body_at barred
-  barred-other not1 not-stamp not-reader =
-      rw (
-        ne_eqb h.kind 1 not1,
-        ne_eqb h.kind 3 (λ e. not-stamp (inl e)),
-        ne_eqb h.kind 5 (λ e. not-stamp (inr e)),
-        ne_eqb h.kind 7 (λ e. not-reader (inl e)),
-        ne_eqb h.kind 9 (λ e. not-reader (inr (inl e))),
-        ne_eqb h.kind 11 (λ e. not-reader (inr (inr e))),
-      )
-      (at-cond (eqb h.kind 2) _ _ Q (λ e. refl)
-      (λ e. at-cond (eqb h.kind 4) _ _ Q (λ e. refl)
-      (λ e. at-cond (eqb h.kind 6) _ _ Q (λ e. refl)
-      (λ e. at-cond (eqb h.kind 8) _ _ Q (λ e. refl)
-      (λ e. at-cond (eqb h.kind 10) _ _ Q (λ e. refl) (λ e. refl))))))
-    where
-      Q : Body → Type 0
-      Q x = true ≡ barred h.client x
-
-  -- so what is left is repair
-  pub is-repair : (h.kind ≡ 1 → ⊥) → (h.kind ≡ 3 → ⊥) → (h.kind ≡ 5 → ⊥) → (h.kind ≡ 7 → ⊥) → (h.kind ≡ 9 → ⊥)
-      → barred h.client (packet_at h packet).body ≡ false → h.kind ≡ 11
-  is-repair not1 not3 not5 not7 not9 p = go (eqb h.kind 11) refl
-    where
-      go : (b : Bool) → eqb h.kind 11 ≡ b → h.kind ≡ 11
-      go true e = eqb-true h.kind 11 e
-      go false e =
-          let other = barred-other not1 (⊎_elim not3 not5) (⊎_elim not7 (⊎_elim not9 (eqb-false h.kind 11 e))) in
-          absurd (subst T (other ∙ p) tt)
+  pub barred-reply : (k ≡ kind.ClockReply) ⊎ ((k ≡ kind.StoreReply) ⊎ ((k ≡ kind.CompleteReply) ⊎ ((k ≡ kind.CollectReply)
+      ⊎ ((k ≡ kind.FilterReply) ⊎ (k ≡ kind.RepairReply))))) → true ≡ barred h.client (packet_at h packet).body
+  unfolding body_at barred
+  barred-reply (inl e) = sym (of-kind kind.ClockReply e)
+  barred-reply (inr (inl e)) = sym (of-kind kind.StoreReply e)
+  barred-reply (inr (inr (inl e))) = sym (of-kind kind.CompleteReply e)
+  barred-reply (inr (inr (inr (inl e)))) = sym (of-kind kind.CollectReply e)
+  barred-reply (inr (inr (inr (inr (inl e))))) = sym (of-kind kind.FilterReply e)
+  barred-reply (inr (inr (inr (inr (inr e))))) = sym (of-kind kind.RepairReply e)
 
 -- ---- refusals 8, 9 and 15
 
@@ -206,9 +191,14 @@ module _ (d key packet output : List ℕ) where
         pub take-refused : (k ≡ 0 → ⊥) → {z : Outcome} → z ≡ number k → down z ≡ server_take real d key packet output
         take-refused h p = ap down p ∙ sym (whole ∙ refused_is k _ _ h)
 
+        accepted : k ≡ 0 → LetIn h told packet (length output)
+        accepted z = let v : Server = server_in (memory_in o) in was_let_in h told packet (length output) v (sym (found v) ∙ z)
+
+        pub take_sent : k ≡ 0 → barred h.client (packet_at h packet).body ≡ false
+        take_sent z = (accepted z).sent
+
         pub take-answered : k ≡ 0 → {r : Served} → AnswersAny d key packet output h told r → r ≡ server_take real d key packet output
         take-answered z {r} a =
-            let v : Server = server_in (memory_in o) in
-            let l = was_let_in h told packet (length output) v (sym (found v) ∙ z) in
+            let l = accepted z in
             a o l.own dec l.sent l.room-there
             ∙ sym (whole ∙ ap (λ (j : ℕ). on_refusal j (acted_on real d key packet output (some (memory_in o)) (decode packet)) (down (number j))) z)

@@ -7,6 +7,8 @@ use Rattle.cluster.specs.Ranges.{packet_room}
 use Rattle.protocol.specs.Values.{below}
 use Rattle.protocol.specs.declared.Head.{Head}
 use Rattle.protocol.specs.declared.Label.{Label}
+use Rattle.protocol.specs.declared.kinds.Kind.{Kind}
+use Rattle.protocol.specs.Kinds.{kind_number}
 use Rattle.protocol.specs.Packet.{Packet, decode}
 use Rattle.protocol.specs.Memory.{Memory, latest_place}
 use Rattle.protocol.specs.Primitives.{real}
@@ -34,25 +36,25 @@ NumberAt told p room r = (v : Server) → r ≡ server_refusal true (some (memor
 abbrev pub ToServer : Head → Opened → Type 0
 ToServer h told = (h.t ≡ told.t) × (h.server ≡ told.server)
 
--- the head of a reply of kind k
+-- the head of a reply whose kind has the number k
 abbrev pub reply_head_def : Head → ℕ → Head
 reply_head_def h k = record { kind = k; client = h.client; server = h.server; t = h.t; call = h.call }
 
 -- r is the step of a packet of kind k with the head h
-abbrev pub AnswersAs : ℕ → List ℕ → List ℕ → List ℕ → List ℕ → Head → Opened → Served → Type 0
+abbrev pub AnswersAs : Kind → List ℕ → List ℕ → List ℕ → List ℕ → Head → Opened → Served → Type 0
 AnswersAs k d key packet output h told r =
-    (o : OpenedAs d told) → ToServer h told → decode packet ≡ some (packet_at h packet) → h.kind ≡ k → packet_room ≤ length output
+    (o : OpenedAs d told) → ToServer h told → decode packet ≡ some (packet_at h packet) → h.kind ≡ kind_number k → packet_room ≤ length output
     → r ≡ acted_on real d key packet output (some (memory_in o)) (decode packet)
 
 -- the same for every key
-abbrev pub AnswersOf : ℕ → List ℕ → List ℕ → List ℕ → Head → Opened → Served → Type 0
+abbrev pub AnswersOf : Kind → List ℕ → List ℕ → List ℕ → Head → Opened → Served → Type 0
 AnswersOf k d packet output h told r = (key : List ℕ) → AnswersAs k d key packet output h told r
 
 -- the same for every key and whatever is told; and for every packet
-abbrev pub AnswersFor : ℕ → List ℕ → List ℕ → List ℕ → Head → Served → Type 0
+abbrev pub AnswersFor : Kind → List ℕ → List ℕ → List ℕ → Head → Served → Type 0
 AnswersFor k d packet output h r = (key : List ℕ) (told : Opened) → AnswersAs k d key packet output h told r
 
-abbrev pub AnswersAll : ℕ → List ℕ → List ℕ → Head → Served → Type 0
+abbrev pub AnswersAll : Kind → List ℕ → List ℕ → Head → Served → Type 0
 AnswersAll k d output h r = (packet : List ℕ) → AnswersFor k d packet output h r
 
 -- r is the step of a packet of any kind that is not refused with 9

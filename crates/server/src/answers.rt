@@ -1,19 +1,22 @@
 // The answers to requests, one function for each kind.
 ghost use Rattle.std.specs.Prelude.{◌≡◌, []};
 ghost use Rattle.cluster.specs.Refusals.{outcome_told};
+ghost use Rattle.protocol.specs.declared.kinds.Kind.TheVariants as kind;
+ghost use Rattle.protocol.specs.Kinds.{kind_number};
 ghost use Rattle.wire.specs.Make.{packet_step};
 ghost use Rattle.server.specs.Answers.{reply_head_def, AnswersFor, AnswersAll, raised_bytes};
 
 use crate::memory::LATEST;
 use cluster::Refusal;
+use protocol::kinds::Kind;
 use wire::bytes::part;
 
 // The head of a reply.
-pub(crate) fn reply_head(head: protocol::Head, kind: u8) -> protocol::Head
-    ensures { result ≡ reply_head_def head kind }
+pub(crate) fn reply_head(head: protocol::Head, kind: Kind) -> protocol::Head
+    ensures { result ≡ reply_head_def head (kind_number kind) }
 {
     protocol::Head {
-        kind,
+        kind: kind.number(),
         client: head.client,
         server: head.server,
         t: head.t,
@@ -24,31 +27,31 @@ pub(crate) fn reply_head(head: protocol::Head, kind: u8) -> protocol::Head
 // A reply of a kind, whose body is one run of bytes.
 pub(crate) fn reply(
     head: protocol::Head,
-    kind: u8,
+    kind: Kind,
     body: &[u8],
     out: &mut [u8],
 ) -> Result<usize, Refusal>
-    ensures { record { result = outcome_told result; output = out.new } ≡ packet_step (reply_head_def head kind) body.now [] out.old }
+    ensures { record { result = outcome_told result; output = out.new } ≡ packet_step (reply_head_def head (kind_number kind)) body.now [] out.old }
 {
     wire::make::make_packet(reply_head(head, kind), body, &[], out)
 }
 
 // Clock: the latest candidate's stamp.
 pub(crate) fn clock(memory: &[u8], head: protocol::Head, out: &mut [u8]) -> Result<usize, Refusal>
-    ensures { AnswersAll 1 memory.now out.old head
+    ensures { AnswersAll kind.Clock memory.now out.old head
         (record { result = outcome_told result; memory = memory.now; output = out.new }) }
 {
     let stamp = part(memory, LATEST, wire::sizes::STAMP);
-    reply(head, protocol::kinds::CLOCK_REPLY, stamp, out)
+    reply(head, Kind::ClockReply, stamp, out)
 }
 
 // Collect: the latest candidate.
 pub(crate) fn collect(memory: &[u8], head: protocol::Head, out: &mut [u8]) -> Result<usize, Refusal>
-    ensures { AnswersAll 7 memory.now out.old head
+    ensures { AnswersAll kind.Collect memory.now out.old head
         (record { result = outcome_told result; memory = memory.now; output = out.new }) }
 {
     let candidate = part(memory, LATEST, wire::sizes::candidate_size(head.t));
-    reply(head, protocol::kinds::COLLECT_REPLY, candidate, out)
+    reply(head, Kind::CollectReply, candidate, out)
 }
 
 // A candidate becomes the latest if its stamp is higher.
@@ -69,9 +72,9 @@ pub(crate) fn complete(
     packet: &[u8],
     out: &mut [u8],
 ) -> Result<usize, Refusal>
-    ensures { AnswersFor 5 memory.old packet.now out.old head
+    ensures { AnswersFor kind.Complete memory.old packet.now out.old head
         (record { result = outcome_told result; memory = memory.new; output = out.new }) }
 {
     raise(memory, wire::bytes::rest(packet, wire::sizes::HEAD));
-    reply(head, protocol::kinds::COMPLETE_REPLY, &[], out)
+    reply(head, Kind::CompleteReply, &[], out)
 }

@@ -2,6 +2,7 @@
 ghost use Rattle.std.specs.Prelude.{◌≡◌, [], ◌∷◌, ◌++◌, ◌≤◌, drop, get_or};
 ghost use Rattle.cluster.specs.Config.{shelf};
 ghost use Rattle.cluster.specs.Refusals.{outcome_told};
+ghost use Rattle.protocol.specs.declared.kinds.Kind.TheVariants as kind;
 ghost use Rattle.protocol.specs.Packet.{stamp_f, head_size};
 ghost use Rattle.wire.specs.Places.{length_at, share_size_def};
 ghost use Rattle.server.specs.Answers.{AnswersAs};
@@ -11,6 +12,7 @@ use crate::memory::{Opened, find};
 use crate::rank::{next_rank, slot, slot_with};
 use crate::valid::{by_history, by_tag, digest_nonce};
 use cluster::Refusal;
+use protocol::kinds::Kind;
 use wire::bytes::{part, rest};
 
 // Bytes of a list's count, before its candidates.
@@ -101,10 +103,10 @@ fn reply_held(
 {
     let nothing = held_head(stamp, 0);
     let Some(at) = find(memory, opened, &nothing) else {
-        return crate::answers::reply(head, protocol::kinds::FILTER_REPLY, &nothing, out);
+        return crate::answers::reply(head, Kind::FilterReply, &nothing, out);
     };
     wire::make::make_packet(
-        crate::answers::reply_head(head, protocol::kinds::FILTER_REPLY),
+        crate::answers::reply_head(head, Kind::FilterReply),
         &held_head(stamp, 1),
         share_bytes(memory, at, opened.t),
         out,
@@ -121,7 +123,7 @@ pub(crate) fn filter(
     out: &mut [u8],
 ) -> Result<usize, Refusal>
     requires { (1 ≤ opened.server) × (passed.number ≡ get_or (drop head_size packet.now) 0 0) }
-    ensures { AnswersAs 9 memory.old key packet.now out.old passed.head opened
+    ensures { AnswersAs kind.Filter memory.old key packet.now out.old passed.head opened
         (record { result = outcome_told result; memory = memory.new; output = out.new }) }
 {
     let head = passed.head;

@@ -1,11 +1,13 @@
 // Repair: the candidate becomes the latest if it is valid and higher.
 ghost use Rattle.std.specs.Prelude.{◌≤◌};
 ghost use Rattle.cluster.specs.Refusals.{outcome_told};
+ghost use Rattle.protocol.specs.declared.kinds.Kind.TheVariants as kind;
 ghost use Rattle.server.specs.Answers.{AnswersAs};
 ghost use Rattle.server.specs.Valid.{RaisedAs};
 
 use crate::memory::Opened;
 use cluster::Refusal;
+use protocol::kinds::Kind;
 use wire::bytes::rest;
 
 // A valid candidate is raised.
@@ -27,9 +29,9 @@ pub(crate) fn repair(
     out: &mut [u8],
 ) -> Result<usize, Refusal>
     requires { 1 ≤ opened.server }
-    ensures { AnswersAs 11 memory.old key packet.now out.old head opened
+    ensures { AnswersAs kind.Repair memory.old key packet.now out.old head opened
         (record { result = outcome_told result; memory = memory.new; output = out.new }) }
 {
     raise_valid(memory, key, opened, rest(packet, wire::sizes::HEAD));
-    crate::answers::reply(head, protocol::kinds::REPAIR_REPLY, &[], out)
+    crate::answers::reply(head, Kind::RepairReply, &[], out)
 }

@@ -2,18 +2,23 @@
 ghost use Rattle.std.specs.Prelude.{◌≡◌, [], ◌∷◌, ◌<◌};
 ghost use Rattle.cluster.specs.Ranges.{capacity};
 ghost use Rattle.cluster.specs.Refusals.{outcome_told};
+ghost use Rattle.protocol.specs.declared.kinds.Kind.TheVariants as kind;
+ghost use Rattle.protocol.specs.Kinds.{kind_number, code_number};
 ghost use Rattle.wire.specs.Make.{packet_step};
 ghost use Rattle.server.specs.Answers.{reply_head_def, AnswersOf, kept_bytes};
 
 use crate::memory::{COUNT, Opened, find};
 use cluster::Refusal;
+use protocol::codes::Code;
+use protocol::kinds::Kind;
 use wire::bytes::rest;
 
-// The reply: 0, 10 or 11.
-fn store_reply(head: protocol::Head, code: u8, out: &mut [u8]) -> Result<usize, Refusal>
-    ensures { record { result = outcome_told result; output = out.new } ≡ packet_step (reply_head_def head 4) (code ∷ []) [] out.old }
+// The reply: what was done with the write.
+fn store_reply(head: protocol::Head, code: Code, out: &mut [u8]) -> Result<usize, Refusal>
+    ensures { record { result = outcome_told result; output = out.new }
+        ≡ packet_step (reply_head_def head (kind_number kind.StoreReply)) (code_number code ∷ []) [] out.old }
 {
-    crate::answers::reply(head, protocol::kinds::STORE_REPLY, &[code], out)
+    crate::answers::reply(head, Kind::StoreReply, &[code.number()], out)
 }
 
 // One more stored write, after the others.
@@ -32,16 +37,16 @@ pub(crate) fn store(
     opened: Opened,
     out: &mut [u8],
 ) -> Result<usize, Refusal>
-    ensures { AnswersOf 3 memory.old packet.now out.old head opened
+    ensures { AnswersOf kind.Store memory.old packet.now out.old head opened
         (record { result = outcome_told result; memory = memory.new; output = out.new }) }
 {
     let write = rest(packet, wire::sizes::HEAD);
     if find(memory, opened, write).is_some() {
-        return store_reply(head, protocol::codes::HELD, out);
+        return store_reply(head, Code::Held, out);
     }
     if cluster::CAPACITY <= opened.count {
-        return store_reply(head, protocol::codes::FULL, out);
+        return store_reply(head, Code::Full, out);
     }
     keep_write(memory, opened, write);
-    store_reply(head, 0, out)
+    store_reply(head, Code::Kept, out)
 }

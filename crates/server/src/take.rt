@@ -1,7 +1,8 @@
 // Taking a packet: refused with the lowest number that applies, or answered.
-ghost use Rattle.std.specs.Prelude.{◌≡◌, not, ◌||◌, ◌≤◌, ltb, eqb};
+ghost use Rattle.std.specs.Prelude.{◌≡◌, false, not, ◌||◌, ◌≤◌, ltb, eqb};
 ghost use Rattle.cluster.specs.Ranges.{top_writer};
 ghost use Rattle.cluster.specs.Refusals.{number_told, outcome_told};
+ghost use Rattle.protocol.specs.Kinds.{kind_number};
 ghost use Rattle.protocol.specs.Server.{barred};
 ghost use Rattle.protocol.specs.Primitives.{real};
 ghost use Rattle.protocol.specs.ServerBytes.{server_take};
@@ -10,6 +11,7 @@ ghost use Rattle.server.specs.Answers.{EveryPacket, NumberAt, AnswersAny};
 
 use crate::memory::{Opened, open};
 use cluster::Refusal;
+use protocol::kinds::Kind;
 use wire::packet::{Passed, read_packet};
 
 // Whether a client may not send a store or complete of this stamp: only a writer may, and only with a stamp of its own.
@@ -20,30 +22,34 @@ fn foreign(client: u8, label: protocol::Label) -> bool
 }
 
 // Refusal 9: replies, and requests that only a writer may send.
-fn barred(head: protocol::Head, label: protocol::Label) -> bool
-    ensures { EveryPacket head label (λ p. result ≡ barred head.client p.body) }
+fn barred(passed: Passed) -> bool
+    requires { kind_number passed.kind ≡ passed.head.kind }
+    ensures { EveryPacket passed.head passed.label (λ p. result ≡ barred passed.head.client p.body) }
 {
-    match head.kind {
-        protocol::kinds::COLLECT | protocol::kinds::FILTER | protocol::kinds::REPAIR => false,
-        protocol::kinds::CLOCK => cluster::TOP_WRITER < usize::from(head.client),
-        protocol::kinds::STORE | protocol::kinds::COMPLETE => foreign(head.client, label),
-        _ => true,
+    let client = passed.head.client;
+    match passed.kind {
+        Kind::Collect | Kind::Filter | Kind::Repair => false,
+        Kind::Clock => cluster::TOP_WRITER < usize::from(client),
+        Kind::Store | Kind::Complete => foreign(client, passed.label),
+        Kind::ClockReply
+        | Kind::StoreReply
+        | Kind::CompleteReply
+        | Kind::CollectReply
+        | Kind::FilterReply
+        | Kind::RepairReply => true,
     }
 }
 
 // A packet that was let through is for this server, from a client that may send it, and there is room for the reply: else 8, 9 or 15.
-fn accept(
-    head: protocol::Head,
-    label: protocol::Label,
-    opened: Opened,
-    room: usize,
-) -> Result<(), Refusal>
-    ensures { EveryPacket head label (λ p. NumberAt opened p room (number_told result)) }
+fn accept(passed: Passed, opened: Opened, room: usize) -> Result<(), Refusal>
+    requires { kind_number passed.kind ≡ passed.head.kind }
+    ensures { EveryPacket passed.head passed.label (λ p. NumberAt opened p room (number_told result)) }
 {
+    let head = passed.head;
     if head.t != opened.t || head.server != opened.server {
         return Err(Refusal::Addressee);
     }
-    if barred(head, label) {
+    if barred(passed) {
         return Err(Refusal::Sender);
     }
     if room < cluster::PACKET_ROOM {
@@ -52,7 +58,7 @@ fn accept(
     Ok(())
 }
 
-// The answer by kind. Of the kinds that are not refused with 9, repair is left at the end.
+// The answer to a request; accept refused replies.
 fn answer(
     memory: &mut [u8],
     key: [u8; cluster::KEY],
@@ -61,18 +67,27 @@ fn answer(
     opened: Opened,
     out: &mut [u8],
 ) -> Result<usize, Refusal>
-    requires { (1 ≤ opened.server) × (passed.number ≡ body_number (packet_at passed.head packet.now).body) }
+    requires server { 1 ≤ opened.server }
+    requires kind { kind_number passed.kind ≡ passed.head.kind }
+    requires number { passed.number ≡ body_number (packet_at passed.head packet.now).body }
+    requires sent { barred passed.head.client (packet_at passed.head packet.now).body ≡ false }
     ensures { AnswersAny memory.old key packet.now out.old passed.head opened
         (record { result = outcome_told result; memory = memory.new; output = out.new }) }
 {
     let head = passed.head;
-    match head.kind {
-        protocol::kinds::CLOCK => crate::answers::clock(memory, head, out),
-        protocol::kinds::STORE => crate::store::store(memory, head, packet, opened, out),
-        protocol::kinds::COMPLETE => crate::answers::complete(memory, head, packet, out),
-        protocol::kinds::COLLECT => crate::answers::collect(memory, head, out),
-        protocol::kinds::FILTER => crate::filter::filter(memory, key, passed, packet, opened, out),
-        _ => crate::repair::repair(memory, key, head, packet, opened, out),
+    match passed.kind {
+        Kind::Clock => crate::answers::clock(memory, head, out),
+        Kind::Store => crate::store::store(memory, head, packet, opened, out),
+        Kind::Complete => crate::answers::complete(memory, head, packet, out),
+        Kind::Collect => crate::answers::collect(memory, head, out),
+        Kind::Filter => crate::filter::filter(memory, key, passed, packet, opened, out),
+        Kind::Repair => crate::repair::repair(memory, key, head, packet, opened, out),
+        Kind::ClockReply
+        | Kind::StoreReply
+        | Kind::CompleteReply
+        | Kind::CollectReply
+        | Kind::FilterReply
+        | Kind::RepairReply => unreachable!(),
     }
 }
 
@@ -91,6 +106,6 @@ pub fn take(
     }
     let opened = open(memory).ok_or(Refusal::Memory)?;
     let passed = read_packet(packet).ok_or(Refusal::Layout)?;
-    accept(passed.head, passed.label, opened, out.len())?;
+    accept(passed, opened, out.len())?;
     answer(memory, *key, passed, packet, opened, out)
 }

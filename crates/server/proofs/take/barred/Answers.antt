@@ -1,17 +1,15 @@
 -- One law for each arm. Assumes nothing.
-use Rattle.server.proofs.Taking.{barred-reader, barred-clock, barred-stamp, barred-other}
+use Rattle.server.proofs.Taking.{barred-reader, barred-clock, barred-stamp, barred-reply}
 use Rattle.server.proofs.take.barred.Goals as goal
 
-pub returns-in-7 : goal.returns-in-7
-returns-in-7 c packet label = barred-reader c.args.head packet c.in-7.is
+pub returns-in-Collect : goal.returns-in-Collect
+returns-in-Collect c packet label = barred-reader c.args.passed.head packet c.requires c.in-Collect.is
 
-pub returns-in-1 : goal.returns-in-1
-returns-in-1 c packet label = rw c.from.ensures (barred-clock c.args.head packet c.in-1.is)
+pub returns-in-Clock : goal.returns-in-Clock
+returns-in-Clock c packet label = rw c.from.ensures (barred-clock c.args.passed.head packet c.requires c.in-Clock.is)
 
-pub returns-in-3 : goal.returns-in-3
-returns-in-3 c packet label = barred-stamp c.args.head packet c.in-3.is label c.foreign.ensures
+pub returns-in-Store : goal.returns-in-Store
+returns-in-Store c packet label = barred-stamp c.args.passed.head packet c.requires c.in-Store.is label c.foreign.ensures
 
-pub returns-in_default : goal.returns-in_default
-returns-in_default c packet label =
-    let rest = c.in_default.in_default-own.rest in
-    barred-other c.args.head packet rest.0.1 rest.1 rest.0.0.1
+pub returns-in-ClockReply : goal.returns-in-ClockReply
+returns-in-ClockReply c packet label = barred-reply c.args.passed.head packet c.requires c.in-ClockReply.is
