@@ -1,4 +1,4 @@
--- What a row shows of an answer, case by case, and a part of many copies. By cases. Assumes nothing.
+-- What a row shows of an answer, case by case. By cases. Assumes nothing.
 use mathlib.Core.Path.{◌≡◌, refl, sym, ap, ◌∙◌}
 use mathlib.Core.List.{List, []}
 use mathlib.Core.Logic.{◌≢◌}
@@ -73,9 +73,3 @@ pub row-taken : (x : Result Taken Refusal) (o : List ℕ) (a : Answer) (content 
 unfolding shown_as bytes_at
 row-taken x o a content first e p f =
     rw f (ap (shown_as a) p ∙ ap (λ (z : Answer). shown_as z (take z.length o)) e ∙ sym (shown-taken x o))
-
--- ---- copies of a byte
-
-pub part_copies : (m n x : ℕ) → m ≤ n → bytes_at (replicate n x) 0 m ≡ replicate m x
-unfolding bytes_at
-part_copies m n x h = take_copies m n x h
