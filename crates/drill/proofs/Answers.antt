@@ -2,8 +2,8 @@
 use mathlib.Core.Path.{◌≡◌, refl, sym, ap, ◌∙◌}
 use mathlib.Core.List.{List, []}
 use mathlib.Core.Logic.{◌≢◌}
-use Prim.Native.Nat.{ℕ, zero, suc, ◌≤◌}
-use lib.ListN.{length, take, get_or, replicate}
+use Prim.Native.Nat.{ℕ, zero, suc}
+use lib.ListN.{length, take, get_or}
 use Rattle.std.specs.Prelude.{Result, Ok, Err, MatchResult, IsOkAnd}
 use Rattle.cluster.specs.declared.Refusal.{Refusal}
 use Rattle.cluster.specs.Refusals.{refusal_number, number_told}
@@ -18,7 +18,6 @@ use Rattle.protocol.specs.Client.{refused, more}
 use Rattle.format.specs.Reading.{bytes_at}
 use Rattle.runs.specs.Runs.{result_of, result_by}
 use Rattle.protocol.proofs.Told.{refused_back}
-use Rattle.columns.proofs.Printed.{take_copies}
 use Rattle.drill.specs.Steps.{shown_as, shown}
 
 shown-more : shown_as (taken_answer taken.More) [] ≡ shown more
