@@ -3,6 +3,7 @@ that are taken off a build.
 
 `counted` needs the repository and `rt`; the others are read from a log, or measure.
 """
+import ast
 import os
 import pathlib
 import re
@@ -68,7 +69,7 @@ def exported():
 def public():
     """Public functions, those that docs/CONTRACTS.md names."""
     texts = (file.read_text() for crate in crate_lines() for file in (ROOT / "crates" / crate / "src").glob("*.rt"))
-    return f"{sum(len(re.findall(r'^ *pub (?:extern .C. )?fn ', text, re.M)) for text in texts)}"
+    return f"{sum(len(re.findall(r'^ *pub (?:const )?(?:extern .C. )?fn ', text, re.M)) for text in texts)}"
 
 
 def sizes():
@@ -90,7 +91,7 @@ def constant(name, place):
         return value(HEADER, rf"^#define {name} (\d+)u\b")
     if crate in HOSTS:
         return value(HOSTS[crate] / f"{file}.rs", rf"^pub const {name}: \w+ = ([\d_]+);")
-    return value(ROOT / "crates" / crate / "src" / f"{file}.rt", rf"^(?:pub(?:\(crate\))? )?const {name}: \w+ = (\d+);")
+    return value(ROOT / "crates" / crate / "src" / f"{file}.rt", rf"^(?:pub(?:\(crate\))? )?const {name}: \w+ = (\d+|b'(?:\\.|.)');")
 
 
 def tagged():
@@ -115,7 +116,7 @@ def value(file, pattern):
     found = re.findall(pattern, file.read_text(), re.M)
     if len(found) != 1:
         sys.exit(f"figures: {file.relative_to(ROOT)} has {len(found)} lines {pattern}")
-    return int(found[0].replace("_", ""))
+    return ast.literal_eval(found[0])[0] if found[0].startswith("b") else int(found[0].replace("_", ""))
 
 
 def first_run():

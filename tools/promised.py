@@ -8,15 +8,18 @@ import re
 
 from trying import ROOT, crate_lines, read_edit
 
-FUNCTION = re.compile(r"^( *)pub (?:extern \"C\" )?fn (\w+)\(.*?^\1\}$", re.M | re.S)
+FUNCTION = re.compile(r"^( *)pub (?:const )?(?:extern \"C\" )?fn (\w+)(?:<[^(]*>)?\(.*?^\1\}$", re.M | re.S)
 GHOST = re.compile(r"^ghost use (Rattle\S+?)\.\{(.*?)\};", re.M)
+PRIVATE = re.compile(r"^fn (\w+)(?:<[^(]*>)?\(.*?^\}$", re.M | re.S)
 TYPE = re.compile(r"^impl (\w+) \{", re.M)
 USE = re.compile(r"^(?:pub )?use ([\w:]+?)(?:::\{([^}]*)\})?;", re.M)
-CALL = re.compile(r"(?:(\.)|(?<!fn )(?<![\w:.]))((?:\w+::)*)(\w+)\(")
+CALL = re.compile(r"(?:(\.)|(?<!fn )(?<![\w:.]))((?:\w+::)*)(\w+)(?:::<[^>(]*>)?\(")
 # Document 01's form for a client's call in hand: programs lend parts of one run of bytes and call what these hand on to.
 FOR_CALLERS = {f"client::{name}" for name in ("begin_write", "begin_read", "take", "give_up", "make")}
 # Whole tables for many look-ups, and how many candidates kept bytes list: our own code looks up one at a time, and sees the count in what it writes.
 FOR_CALLERS |= {"gf256::logarithms::powers", "gf256::logarithms::logs", "decide::count_listed"}
+# What `==` of stamps is, said by a definition: our own code compares stamps by their bytes, and blank ones by `is_blank`.
+FOR_CALLERS |= {"protocol::Stamp::same"}
 
 
 def cited(text, promise):
@@ -81,12 +84,26 @@ def called(found, path, file, match):
     return sum(not (f == file and match.start() <= at < match.end()) for f, at in places)
 
 
+def own(text, match):
+    """The text of a function, as places in the file's, and that of each private function of the file that it alone calls: what it is made of."""
+    homes, new = [match], [match]
+    private = {m.group(1): m for m in PRIVATE.finditer(text)}
+    asked = [name for method, path, name in CALL.findall(text) if not method and not path]
+    while new:
+        body = new.pop().group(0)
+        parts = [private[name] for method, path, name in CALL.findall(body) if not method and not path and name in private and asked.count(name) == 1]
+        new += [part for part in parts if part not in homes]
+        homes += [part for part in parts if part not in homes]
+    return [(home.start(), home.end()) for home in homes]
+
+
 def edited(crate, file, text, match):
-    """How many edits change the text of a function: an edit's old text begins in it, or it begins in the edit's old text."""
+    """How many edits change a function, or a private one that it alone calls: an edit's old text begins in it, or it begins in the edit's old text."""
+    homes = own(text, match)
 
     def within(old):
         at = text.find(old)
-        return at >= 0 and at < match.end() and match.start() < at + len(old)
+        return at >= 0 and any(at < end and start < at + len(old) for start, end in homes)
 
     edits = (read_edit(edit)[1] for edit in (ROOT / "crates" / crate).glob("*/*.edit"))
     return sum(any(name == f"src/{file.name}" and within(old) for name, old, _ in pairs) for pairs in edits)

@@ -1,6 +1,5 @@
 -- What a filter round has decided, by document 01's rules on the view of the kept bytes, and the content that it gives.
-use Rattle.std.specs.Prelude.{Bool, cond, not, ◌&&◌, List, [], ◌∷◌, ℕ, zero, suc, ◌+◌, ◌-◌, leb, ltb, eqb, length, drop}
-use Rattle.std.specs.Prelude as told
+use Rattle.std.specs.Prelude.{Result, Ok, Err, Bool, cond, not, ◌&&◌, List, [], ◌∷◌, ℕ, zero, suc, ◌+◌, ◌-◌, leb, ltb, eqb, length, drop}
 use Rattle.std.proofs.Math.Option.{Option, none, some}
 use Rattle.cluster.specs.Config.{Config, shelf}
 use Rattle.cluster.specs.Ranges.{within, top_faults, top_length, content_room}
@@ -37,9 +36,9 @@ decision_answer decisions.Blank = bare_verdict (taken_answer taken.Blank).result
 decision_answer (decisions.Found i b n) = record { result = (taken_answer (taken.Read 0 0 n)).result; slot = i; server = b; length = n }
 
 -- the same, or a refusal's result
-abbrev pub decision_told : told.Result Decision Refusal → Verdict
-decision_told (told.Ok d) = decision_answer d
-decision_told (told.Err why) = bare_verdict (refusals + refusal_number why)
+abbrev pub decision_told : Result Decision Refusal → Verdict
+decision_told (Ok d) = decision_answer d
+decision_told (Err why) = bare_verdict (refusals + refusal_number why)
 
 -- the answer, and the output buffer after it
 pub record Decided : Type 0 where

@@ -8,9 +8,6 @@ pub returns-then-outside : goal.returns-then-outside
 returns-then-outside c =
     read_stays c.args.t c.args.client c.requires.0 c.args.work.now (is-out 1 top_client c.args.client c.outside.ensures c.if-outside.true) refl
 
-pub begin_read-requires : goal.begin_read-requires
-begin_read-requires c = (is_in 1 top_client c.args.client c.outside.ensures c.if-outside.false, c.requires.1)
-
 pub returns : goal.returns
 returns c =
     read_moves c.args.t c.args.client c.requires.0 c.args.work.now (is_in 1 top_client c.args.client c.outside.ensures c.if-outside.false) _

@@ -9,9 +9,6 @@ use Rattle.drill.proofs.steps.round_of.Goals as goal
 pub returns-then-outside : goal.returns-then-outside
 returns-then-outside c = round_none c.args.work.now c.args.client (is-out 1 top_client c.args.client c.outside.ensures c.if-outside.true)
 
-pub call_of-requires : goal.call_of-requires
-call_of-requires c = is_in 1 top_client c.args.client c.outside.ensures c.if-outside.false
-
 pub returns : goal.returns
 returns c =
     rw c.from.ensures (round_some c.args.work.now c.args.client (is_in 1 top_client c.args.client c.outside.ensures c.if-outside.false)

@@ -10,9 +10,6 @@ returns-then-outside c =
     stop-stays c.args.t c.args.client c.requires.0 c.args.work.now (is-out 1 top_client c.args.client c.outside.ensures c.if-outside.true)
     (shown-back 5 [])
 
-pub give_up-requires : goal.give_up-requires
-give_up-requires c = (is_in 1 top_client c.args.client c.outside.ensures c.if-outside.false, c.requires.1)
-
 pub returns : goal.returns
 returns c =
     stop_moves c.args.t c.args.client c.requires.0 c.args.work.now (is_in 1 top_client c.args.client c.outside.ensures c.if-outside.false) _

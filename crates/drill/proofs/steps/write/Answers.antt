@@ -25,9 +25,6 @@ returns-then-size-gt-TOP_LENGTH c =
     (inside 1 top_writer a.client (is_in 1 top_writer a.client c.outside.ensures c.if-outside.false))
     (rw length-replicate (lt-ltb top_length a.size c.if-size-gt-TOP_LENGTH.true))) refl
 
-pub begin_write-requires : goal.begin_write-requires
-begin_write-requires c = let h = is_in 1 top_writer c.args.client c.outside.ensures c.if-outside.false in ((h.0, omega arith), c.requires.0.1)
-
 pub returns-in_err-begin_write : goal.returns-in_err-begin_write
 returns-in_err-begin_write c =
     let a = c.args in

@@ -1,12 +1,8 @@
 -- Refused before anything acts, or the visit. Assumes nothing.
 use Rattle.cluster.specs.Refusals.{refusal_number}
-use Rattle.std.proofs.Common.{refl}
 use Rattle.erasure.proofs.Refused.{refused-number}
 use Rattle.drill.proofs.Turning.{visit_passes, visit-refused}
 use Rattle.drill.proofs.visits.visit_line.Goals as goal
-
-pub visit-requires : goal.visit-requires
-visit-requires c = let r = c.in-Ok.ensures in ((c.requires.0.1, c.requires.1), (r.readers refl, r.servers refl))
 
 pub returns-in-Ok : goal.returns-in-Ok
 returns-in-Ok c = let r = c.in-Ok.ensures in visit_passes c.args.t c.args.work.now c.args.client c.args.server r.told c.visit.ensures

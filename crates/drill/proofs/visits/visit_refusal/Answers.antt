@@ -21,9 +21,6 @@ returns-then-outside-2 c =
     refuses-5 a.t c.requires a.work.now a.client a.server (is_in 1 (shelf a.t).servers a.server e c.if-outside.false)
     (is-out 1 top_client a.client c.outside-2.ensures c.if-outside-2.true)
 
-pub call_of-requires : goal.call_of-requires
-call_of-requires c = is_in 1 top_client c.args.client c.outside-2.ensures c.if-outside-2.false
-
 pub returns : goal.returns
 returns c =
     let a = c.args in

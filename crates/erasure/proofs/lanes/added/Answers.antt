@@ -1,16 +1,12 @@
 -- At each place the mask lets x through, or 0.
-use Rattle.std.proofs.Common.{get_or, refl, ap, ◌∙◌, arith, rules}
+use Rattle.std.proofs.Common.{get_or, ap, ◌∙◌, arith, rules}
 use mir.Val.{Fits}
 use mir.Syntax.{w8}
 use Rattle.std.specs.Int.Bits.{bit_xor, bit_and}
 use Rattle.gf256.proofs.Doubling.{masked}
 use Rattle.erasure.specs.Lanes.{bit_of}
-use Rattle.erasure.proofs.Fill.{filled_more}
 use Rattle.erasure.proofs.Horner.{bit-lt}
 use Rattle.erasure.proofs.lanes.added.Goals as goal
-
-pub loop-i-preserved : goal.loop-i-preserved
-loop-i-preserved c = filled_more c.loop-i.invariant (omega arith) _ refl
 
 pub returns : goal.returns
 returns c i h =

@@ -1,5 +1,5 @@
 -- The doubled sum, and one run after the other where its weight has the bit.
-use Rattle.std.proofs.Common.{◌*◌, ℕ, get_or, refl, sym, ap, ap₂, ◌∙◌, arith}
+use Rattle.std.proofs.Common.{◌*◌, ℕ, get_or, refl, sym, ap, ◌∙◌}
 use Rattle.std.specs.Int.Bits.{bit_xor}
 use lib.Bits.{xor_zero_r}
 use Rattle.gf256.proofs.Xor.{xor_assoc}
@@ -20,9 +20,3 @@ loop-j-preserved c i h =
     ∙ ap (λ (x : ℕ). bit_xor x (term l.j)) (l.invariant i h)
     ∙ xor_assoc (get_or begun i 0) (sum_to l.j term) (term l.j)
     ∙ ap (bit_xor (get_or begun i 0)) (sum_to_more l.j term (sum_to l.j term) (term l.j) refl refl)
-
-pub returns : goal.returns
-returns c i h =
-    let l = c.loop-j in
-    let term : ℕ → ℕ = λ m. bit_of (get_or c.args.weights m 0) c.args.b * entry c.args.lanes.now m i in
-    l.invariant i h ∙ ap₂ (λ (x n : ℕ). bit_xor x (sum_to n term)) (c.doubled-out.ensures i h) (omega arith)

@@ -1,8 +1,8 @@
 -- Row 0 is its own product with 1; then one product after the other is added.
-use Rattle.std.proofs.Common.{ℕ, get_or, refl, sym, ap, ◌∙◌, arith}
+use Rattle.std.proofs.Common.{ℕ, get_or, refl, sym, ap, ◌∙◌}
 use Rattle.gf256.specs.Gf.{times}
 use Rattle.gf256.proofs.Linear.{one-times}
-use Rattle.erasure.specs.System.{system_row, entry, sum_to}
+use Rattle.erasure.specs.System.{system_row, entry}
 use Rattle.erasure.proofs.Entries.{entry-byte}
 use Rattle.erasure.proofs.Sums.{sum_to_one, sum_to_more}
 use Rattle.erasure.proofs.system.sum_rows.Goals as goal
@@ -18,7 +18,3 @@ loop-c-preserved c j h =
     let at = c.loop-c in
     c.add_row-more.ensures j h
     ∙ sum_to_more at.c (λ i. times (get_or c.args.powers i 0) (entry c.args.a i j)) (get_or at.sum j 0) _ (at.invariant j h) refl
-
-pub returns : goal.returns
-returns c j h =
-    c.loop-c.invariant j h ∙ ap (λ (n : ℕ). sum_to n (λ i. times (get_or c.args.powers i 0) (entry c.args.a i j))) (omega arith)
