@@ -27,6 +27,7 @@ pub fn next_line(text: &[u8], at: usize) -> usize
     }
 }
 
+// A walk from line to line: the library has no law of how many parts `split_inclusive` gives.
 pub fn count_lines(text: &[u8]) -> usize
     ensures { result ≡ length (lines text.now) }
 {

@@ -1,9 +1,9 @@
--- What a row shows of an answer, case by case, and a part of many copies. By cases. Assumes nothing.
+-- What a row shows of an answer, case by case. By cases. Assumes nothing.
 use mathlib.Core.Path.{◌≡◌, refl, sym, ap, ◌∙◌}
 use mathlib.Core.List.{List, []}
 use mathlib.Core.Logic.{◌≢◌}
-use Prim.Native.Nat.{ℕ, zero, suc, ◌≤◌}
-use lib.ListN.{length, take, get_or, replicate}
+use Prim.Native.Nat.{ℕ, zero, suc}
+use lib.ListN.{length, take, get_or}
 use Rattle.std.specs.Prelude.{Result, Ok, Err, MatchResult, IsOkAnd}
 use Rattle.cluster.specs.declared.Refusal.{Refusal}
 use Rattle.cluster.specs.Refusals.{refusal_number, number_told}
@@ -18,7 +18,6 @@ use Rattle.protocol.specs.Client.{refused, more}
 use Rattle.format.specs.Reading.{bytes_at}
 use Rattle.runs.specs.Runs.{result_of, result_by}
 use Rattle.protocol.proofs.Told.{refused_back}
-use Rattle.columns.proofs.Printed.{take_copies}
 use Rattle.drill.specs.Steps.{shown_as, shown}
 
 shown-more : shown_as (taken_answer taken.More) [] ≡ shown more
@@ -73,9 +72,3 @@ pub row-taken : (x : Result Taken Refusal) (o : List ℕ) (a : Answer) (content 
 unfolding shown_as bytes_at
 row-taken x o a content first e p f =
     rw f (ap (shown_as a) p ∙ ap (λ (z : Answer). shown_as z (take z.length o)) e ∙ sym (shown-taken x o))
-
--- ---- copies of a byte
-
-pub part_copies : (m n x : ℕ) → m ≤ n → bytes_at (replicate n x) 0 m ≡ replicate m x
-unfolding bytes_at
-part_copies m n x h = take_copies m n x h

@@ -59,14 +59,6 @@ module _ (s d : List ℕ) (h : 0 < length s) where
 
 -- ---- room for the rows
 
-pub rows_one : (n : ℕ) → n < 2 → 1 ≡ rows_for_def n
-unfolding rows_for_def
-rows_one n h = rw (lt-ltb n 2 h)
-
-pub rows_more : (n : ℕ) → 2 ≤ n → n - 1 ≡ rows_for_def n
-unfolding rows_for_def
-rows_more n h = rw (le-ltb n 2 h)
-
 least-row : (n : ℕ) → (1 ≤ rows_for_def n) × (n ≤ rows_for_def n + 1)
 unfolding rows_for_def
 least-row n = go (ltb n 2) refl

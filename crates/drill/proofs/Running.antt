@@ -41,6 +41,14 @@ row_put d at vs {n} {f} l h e =
     let k : at + column_size * length vs < length d = omega arith in
     ap (λ (a : RowPrinted). a.output) e ∙ rw (lt-ltb (at + column_size * length vs) (length d) k)
 
+-- .. and the place past it
+pub row_past : (d : List ℕ) (at : ℕ) (vs : List ℕ) {n : ℕ} {f : List ℕ} → length vs ≡ 8 → at + row_size ≤ length d
+    → record { next = n; output = f } ≡ row_at d at vs → n ≡ at + row_size
+unfolding row_at
+row_past d at vs {n} {f} l h e =
+    let k : at + column_size * length vs < length d = omega arith in
+    ap (λ (a : RowPrinted). a.next) e ∙ rw (lt-ltb (at + column_size * length vs) (length d) k) (omega (arith, row-length vs))
+
 pub row_in : (t k n : ℕ) (l : Line) (w v output : List ℕ) (at : ℕ) {printed : List ℕ} {k' round : ℕ} {x : Shown} → StepsIn t
     (λ m. step_of (drill_shelf t) m k l) w v x k'
     → RoundIn v l.client round → printed ≡ put output at (step_row n l round x) → RowIn t k n l w v output at printed k'

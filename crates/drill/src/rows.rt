@@ -27,11 +27,11 @@ pub(crate) fn put_step(out: &mut [u8], at: usize, n: u32, l: Line, round: u32, s
     );
 }
 
-// The line that ends the run, by what refuses it.
-pub(crate) fn put_last(out: &mut [u8], at: usize, n: u32, refusal: Refusal)
+// The line that ends the run, by what refuses it. Answers the place past it.
+pub(crate) fn put_last(out: &mut [u8], at: usize, n: u32, refusal: Refusal) -> usize
     requires { at + row_size ≤ length out.old }
-    ensures { out.new ≡ put out.old at (last_row n (refusals + refusal_number refusal)) }
+    ensures { (out.new ≡ put out.old at (last_row n (refusals + refusal_number refusal))) × (result ≡ at + row_size) }
 {
     let result = u32::from(Answer::from(refusal).result);
-    columns::printing::put_row(out, at, &[n, 0, 0, 0, result, 0, 0, 0]);
+    columns::printing::put_row(out, at, &[n, 0, 0, 0, result, 0, 0, 0])
 }

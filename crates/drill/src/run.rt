@@ -54,8 +54,7 @@ pub(crate) fn rows_from(
     let mut done = 0;
     while at < sheet.len() {
         let Some(l) = step_line(sheet, at, n) else {
-            put_last(out, done, n, Refusal::Line);
-            return done + ROW;
+            return put_last(out, done, n, Refusal::Line);
         };
         one_line(out, work, t, done, n, &mut begun, l);
         at = next_line(sheet, at);
@@ -75,13 +74,11 @@ pub(crate) fn list(sheet: &[u8], out: &mut [u8], work: &mut [u8]) -> usize
         return 0;
     }
     let Some(l) = first_line(sheet) else {
-        put_last(out, 0, 1, Refusal::Line);
-        return ROW;
+        return put_last(out, 0, 1, Refusal::Line);
     };
     let t = l.client as usize;
     if cluster::outside(1, cluster::TOP_FAULTS, t) {
-        put_last(out, 0, 1, Refusal::Faults);
-        return ROW;
+        return put_last(out, 0, 1, Refusal::Faults);
     }
     blank_servers(work, t);
     rows_from(sheet, out, work, t, next_line(sheet, 0))

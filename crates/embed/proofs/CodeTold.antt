@@ -4,23 +4,19 @@ use mathlib.Core.Path.{◌≡◌, refl, ap, ◌∙◌}
 use mathlib.Core.Logic.{◌≢◌}
 use mathlib.Core.Bool.{Bool, true, false, cond}
 use mathlib.Core.List.{List}
-use mathlib.Core.Option.{none, some}
+use mathlib.Core.Option.{some}
 use Prim.Native.Nat.{ℕ}
 use lib.Dec.{eqb}
 use lib.ListN.{drop}
 use borrow.Author.Tests.{ne_eqb}
 use Rattle.cluster.specs.Config.{Config, shelf}
 use Rattle.protocol.specs.declared.Head.{Head}
-use Rattle.protocol.specs.Packet.{Body, kind_of, head_size, decode, broken_packet}
+use Rattle.protocol.specs.Packet.{Body, kind_of, head_size, decode}
 use Rattle.wire.specs.Places.{body_at, packet_at, body_number}
 use Rattle.wire.proofs.Laws.{told_code}
 use Rattle.embed.specs.Packets.{packet_refusal}
 use Rattle.embed.specs.Packing.{packed}
 use Rattle.embed.specs.Replies.{store_reply_kind, code_of, code_told}
-
-pub code_broken : (b : List ℕ) → decode b ≡ none → code_told b ≡ packed broken_packet 0 0 0
-unfolding code_told packet_refusal
-code_broken b e = rw e
 
 module _ (c : Config) (d : List ℕ) where
   abbrev Other : Body → Type 0

@@ -1,24 +1,24 @@
 -- What the exports of fragments and restoring rest on: the operations' answers by cases on their refusal, and how large a count can be.
 -- A count is 0 or belongs to a legal content, so it fits its 16 bits. Assumes nothing.
-use mathlib.Core.Path.{◌≡◌, refl, sym, ap, subst, ◌∙◌}
+use mathlib.Core.Path.{◌≡◌, refl, sym, subst, ◌∙◌}
 use mathlib.Core.List.{List}
 use Prim.Native.Nat.{ℕ, zero, suc, ◌+◌, ◌-◌, ◌/◌, ◌≤◌, ◌<◌}
 use native.Mathlib.Nat.{div-lt_iff_lt-mul}
 use native.Mathlib.Decide.{ℕ_discrete}
 use native.Mathlib.Omega.{arith}
-use lib.ListN.{length, take, length-append, replicate}
+use lib.ListN.{length, take}
 use lib.Seq.{take_at}
-use borrow.Author.Tests.{lt-ltb, le-ltb}
+use borrow.Author.Tests.{le-ltb}
 use Rattle.cluster.specs.Config.{shelf}
 use Rattle.cluster.specs.Ranges.{top_length}
-use Rattle.cluster.specs.Refusals.{wrong_size, on_refusal, first_of}
+use Rattle.cluster.specs.Refusals.{on_refusal, first_of}
 use Rattle.cluster.specs.declared.Outcome.{Outcome}
-use Rattle.erasure.specs.declared.FragmentOutcome.{FragmentOutcome}
+use Rattle.erasure.specs.Steps.{FragmentOutcome}
 use Rattle.erasure.specs.Fragments.{fragment_size_def}
 use Rattle.erasure.specs.Steps.{fragment_room, fragment_refusal_def, fragment_bytes, fragment_step, restore_refusal_def, argument_checks, restore_step}
 use Rattle.erasure.proofs.Laws.{fragment-length}
 use Rattle.erasure.proofs.Refused.{makes, restores, first_of_first}
-use Rattle.embed.specs.Coding.{export_refusal, outcome_of}
+use Rattle.embed.specs.Coding.{export_refusal}
 
 -- ---- a fragment
 
@@ -55,22 +55,10 @@ module _ (t server : ℕ) (content : List ℕ) (made : FragmentOutcome) (is : ma
       (omega (arith, legal.faults.0, legal.bytes)) in
       omega (arith, below, made-size none)
 
-  pub made-long : made.number ≡ 0 → made.count ≤ length made.bytes
-  unfolding fragment_step fragment_bytes
-  made-long none =
-      rw is
-      (rw (sym made-number ∙ none)
-      (rw (length-append (fragment_bytes t server content) (replicate (512 - fragment_size_def (shelf t).threshold (length content)) 0))
-      (omega (arith, fragment-length (shelf t).points (shelf t).threshold content server))))
-
   -- where the output has room, the refusal is the operation's own
   pub own-refusal : (out : List ℕ) → fragment_room ≤ length out → export_refusal t server content out ≡ made.number
   unfolding export_refusal
   own-refusal out h = rw (le-ltb _ _ h) (sym made-number)
-
-pub no_room : (t server : ℕ) (content out : List ℕ) → length out < fragment_room → export_refusal t server content out ≡ wrong_size
-unfolding export_refusal
-no_room t server content out h = rw (lt-ltb _ _ h) refl
 
 -- ---- restoring
 
@@ -95,8 +83,3 @@ module _ (t n : ℕ) (servers fragments out : List ℕ) where
 
   pub restored-count : (o : Outcome) (after : List ℕ) → (o, after) ≡ restore_step t n servers fragments out → o.count ≤ top_length
   restored-count o after e = subst (λ (p : Outcome × List ℕ). p.0.count ≤ top_length) (sym e) most
-
-  pub restored-answer : (o : Outcome) (after : List ℕ) (r : ℕ) → (o, after) ≡ restore_step t n servers fragments out → r ≡ outcome_of o
-      → (r ≡ outcome_of (restore_step t n servers fragments out).0) × (after ≡ (restore_step t n servers fragments out).1)
-  restored-answer o after r e gives =
-      (gives ∙ ap (λ (p : Outcome × List ℕ). outcome_of p.0) e, ap (λ (p : Outcome × List ℕ). p.1) e)

@@ -11,7 +11,7 @@ use Rattle.cluster.specs.Config.{shelf}
 use Rattle.cluster.specs.Refusals.{on_refusal}
 use Rattle.cluster.specs.declared.Outcome.{Outcome}
 use Rattle.format.specs.Reading.{over}
-use Rattle.erasure.specs.declared.WeightsOutcome.{WeightsOutcome}
+use Rattle.erasure.specs.Weights.{WeightsOutcome}
 use Rattle.erasure.specs.Choice.{servers_at, first_different}
 use Rattle.erasure.specs.Fragments.{fragment_size_def}
 use Rattle.erasure.specs.Steps.{restore_refusal_def, restore_step}

@@ -1,5 +1,4 @@
 pub mod Laws
-pub mod Layouts
 pub mod CodeTold
 pub mod RoundTold
 pub mod Coded
@@ -9,7 +8,6 @@ pub mod Planned
 pub mod Sessions
 pub mod Altered
 pub mod Rooms
-pub mod Listings
 pub mod KeyRuns
 pub mod Unpacked
 pub mod Bounded

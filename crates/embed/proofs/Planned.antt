@@ -1,20 +1,27 @@
 -- What the export of a plan rests on. The parts of a plan, written one after the other from the front on, are its numbers over the front: each part
 -- starts where the one before it ended, and a write keeps the length, so there is room for the next. A plan has plan_room numbers, also where it is
 -- refused, since each part has a length of its own. Assumes nothing.
-use mathlib.Core.Path.{◌≡◌, refl, sym, ap, ◌∙◌}
+use mathlib.Core.Path.{◌≡◌, refl, ap, ◌∙◌}
 use mathlib.Core.List.{List, [], ◌∷◌, ◌++◌, append_assoc}
-use Prim.Native.Nat.{ℕ, zero, suc, ◌+◌, ◌≤◌, ◌<◌}
+use Prim.Native.Nat.{ℕ, zero, suc, ◌+◌, ◌-◌, ◌≤◌}
 use native.Mathlib.Omega.{arith}
 use lib.ListN.{length, length-append}
-use borrow.Author.Tests.{lt-ltb, le-ltb}
-use Rattle.cluster.specs.Refusals.{wrong_size, on_refusal}
+use Rattle.cluster.specs.Refusals.{on_refusal}
 use Rattle.erasure.proofs.Lists.{length-table}
-use Rattle.format.specs.Reading.{over, Wrote}
+use borrow.Rule.Slice.PartMut.{put_mid}
+use lib.Seq.{drop-drop}
+use Rattle.format.specs.Reading.{put, over, Wrote}
 use Rattle.format.proofs.Puts.{put-over, wrote_then, wrote-length}
-use Rattle.planner.specs.declared.PlanOutcome.{PlanOutcome}
+use Rattle.planner.specs.Plan.{PlanOutcome}
 use Rattle.planner.specs.Plan.{plan_refusal_def, plan_step}
-use Rattle.embed.specs.Packing.{packed, answer, written_by}
-use Rattle.embed.specs.Plans.{plan_room, numbers_of_def, planned_numbers, plan_export_refusal}
+use Rattle.embed.specs.Plans.{plan_room, numbers_of_def, planned_numbers}
+
+-- a part copied to its place
+pub copied : (d : List ℕ) (at : ℕ) (b : List ℕ) {k : List ℕ} → k ≡ b → Wrote d at b (put_mid at (at + length b - at) d k) (at + length b)
+unfolding put
+copied d at b e =
+    let n : at + length b - at ≡ length b = omega arith in
+    record { bytes = rw (e, n) (simp drop-drop); place = refl }
 
 -- ---- part after part
 
@@ -64,28 +71,9 @@ either-count (suc n) x y p q = q
 -- ---- the export
 
 module _ (t n readers stores : ℕ) where
-  planned-count : length (planned_numbers t n readers stores) ≡ plan_room
+  pub planned-count : length (planned_numbers t n readers stores) ≡ plan_room
   unfolding planned_numbers plan_step
   planned-count =
       either-count (plan_refusal_def t n readers stores) _ _ (count_of _ refl (length-table 14 _) refl refl) (count_of _ refl refl refl refl)
 
-  pub plan_no-room : (numbers : List ℕ) → length numbers < plan_room → plan_export_refusal t n readers stores numbers ≡ wrong_size
-  unfolding plan_export_refusal
-  plan_no-room numbers h = rw (lt-ltb _ _ h) refl
-
-  -- where there is room, the refusal is the operation's own
-  pub plan-refusal : (p : PlanOutcome) (numbers : List ℕ) → p ≡ plan_step t n readers stores → plan_room ≤ length numbers
-      → plan_export_refusal t n readers stores numbers ≡ p.number
-  unfolding plan_export_refusal
-  plan-refusal p numbers is h = rw (le-ltb _ _ h) (ap (λ (x : PlanOutcome). x.number) (sym is))
-
-  pub plan-given : (p : PlanOutcome) (numbers : List ℕ) {after : List ℕ} {r : ℕ} → p ≡ plan_step t n readers stores → plan_room ≤ length numbers
-      → p.number ≡ 0 → r ≡ packed 0 0 0 plan_room → after ≡ over (numbers_of_def p) numbers
-      → (r ≡ answer (plan_export_refusal t n readers stores numbers) (planned_numbers t n readers stores))
-      × (after ≡ written_by (plan_export_refusal t n readers stores numbers) (planned_numbers t n readers stores) numbers)
-  unfolding planned_numbers
-  plan-given p numbers is h none gives puts =
-      rw (plan-refusal p numbers is h ∙ none) (
-        gives ∙ ap (λ (k : ℕ). packed 0 0 0 k) (sym planned-count),
-        puts ∙ ap (λ (x : PlanOutcome). over (numbers_of_def x) numbers) is,
-      )
+pub ruleset counts = (planned-count)

@@ -1,19 +1,23 @@
 -- Lending the first bytes of a buffer in place of all of it: where as many are lent as a packet needs, or all there are, an operation answers the
 -- same and leaves the same bytes, and its count is at most what was lent. The bytes past them are never written. Assumes nothing.
 use mathlib.Core.Path.{◌≡◌, refl, sym, ap, ◌∙◌}
-use mathlib.Core.Bool.{Bool, cond, ◌&&◌}
+use mathlib.Core.Bool.{Bool, true, false, cond, not, ◌&&◌}
+use mir.Val.{bool_byte}
 use mathlib.Core.List.{List, ◌++◌, append_assoc}
 use mathlib.Core.Option.{Option, none, some}
 use Prim.Native.Nat.{ℕ, zero, suc, ◌≤◌}
 use native.Mathlib.Omega.{arith}
 use mathlib.Core.Logic.{◌≢◌}
-use borrow.Author.Tests.{eq-eqb, ne_eqb}
+use borrow.Author.Tests.{eq-eqb}
+use Rattle.std.proofs.Common.{min}
+use Rattle.std.proofs.lemmas.Bool.Decides.{nat_tests}
+use Rattle.protocol.proofs.Equal.{same_refl}
 use lib.Dec.{ltb, eqb}
 use lib.ListN.{length, take, drop, get_or, length-append, length-drop, take-append-drop}
 use lib.Seq.{length-take-le, drop-append-le}
 use Rattle.cluster.specs.Config.{shelf}
 use Rattle.cluster.specs.Ranges.{packet_room, memory_size, key_size}
-use Rattle.cluster.specs.Refusals.{wrong_size, on_refusal}
+use Rattle.cluster.specs.Refusals.{on_refusal}
 use Rattle.cluster.specs.declared.Outcome.{Outcome}
 use Rattle.protocol.specs.declared.Call.{Call}
 use Rattle.format.specs.Format.{Bytes}
@@ -97,13 +101,23 @@ module _ (out : List ℕ) (n : ℕ) (in-out : n ≤ length out) where
 
 -- ---- what the exports make of it, where what was lent is at most a packet's room
 
+-- the shorter of the two
+pub lent-same : (room n : ℕ) → n ≡ min room packet_room → ltb room packet_room ≡ ltb n packet_room
+lent-same room n e = grind (arith, nat_tests, e)
+
 -- the two parts that tell a change, as the code read them before and after
 abbrev by_parts_def : List ℕ → ℕ → ℕ → ℕ
 by_parts_def m count latest = cond (eqb (get_or m count_place 0) count && eqb (rank (stamp_at_def (drop latest_place m))) latest) 0 1
 
-pub told_by : (memory m : List ℕ) (count latest f : ℕ) → count ≡ get_or memory count_place 0 → latest ≡ rank (stamp_at_def (drop latest_place memory))
-    → f ≡ by_parts_def m count latest → f ≡ by_parts_def m (get_or memory count_place 0) (rank (stamp_at_def (drop latest_place memory)))
-told_by memory m count latest f p q e = e ∙ (λ i. by_parts_def m (p i) (q i))
+from_bool : (b : Bool) {f : ℕ} → f ≡ bool_byte (not b) → f ≡ cond b 0 1
+from_bool true e = e
+from_bool false e = e
+
+pub told_by : (memory m : List ℕ) {count latest f : ℕ} {b : Bool} → count ≡ get_or memory count_place 0
+    → latest ≡ rank (stamp_at_def (drop latest_place memory))
+    → b ≡ not (eqb (get_or m count_place 0) count && eqb (rank (stamp_at_def (drop latest_place m))) latest) → f ≡ bool_byte b
+    → f ≡ by_parts_def m (get_or memory count_place 0) (rank (stamp_at_def (drop latest_place memory)))
+told_by memory m {count} {latest} p q e g = from_bool _ (g ∙ ap bool_byte e) ∙ (λ i. by_parts_def m (p i) (q i))
 
 module _ (memory key packet out : List ℕ) (n : ℕ) (in-out : n ≤ length out) (small : n ≤ packet_room)
     (same : ltb (length out) packet_room ≡ ltb n packet_room)
@@ -126,10 +140,26 @@ module _ (memory key packet out : List ℕ) (n : ℕ) (in-out : n ≤ length out
       let told : f ≡ changed memory m = q ∙ changed-told real memory key packet (take n out) m bs (ap (λ (s : Served). s.memory) e) in
       rw (p, told, through.result, through.memory, through.output) refl
 
-pub take-unsized : (memory key packet out : List ℕ) → length key ≢ key_size → record { answer = packed wrong_size 0 0 0; memory = memory; output = out }
-    ≡ take_by memory key packet out
-unfolding take_by key_sized
-take-unsized memory key packet out h = rw (ne_eqb (length key) key_size h) refl
+  -- a refused packet changes nothing
+  same-memory : (k : ℕ) (q : Option Memory) (p : Option Packet)
+      → ((on_refusal k (acted_on real memory key packet (take n out) q p) (turned_down_def real memory key packet (take n out) k)).result.number ≢ 0)
+      → (on_refusal k (acted_on real memory key packet (take n out) q p) (turned_down_def real memory key packet (take n out) k)).memory ≡ memory
+  unfolding acted_on turned_down_def
+  same-memory zero none p h = refl
+  same-memory zero (some q) none h = refl
+  same-memory zero (some q) (some p) h = absurd (h refl)
+  same-memory (suc k) q p h = refl
+
+  kept : o.number ≢ 0 → m ≡ memory
+  unfolding server_take
+  kept h = ap (λ (s : Served). s.memory) e ∙ same-memory _ _ _ (λ z. h (ap (λ (s : Served). s.result.number) e ∙ z))
+
+  pub served-refused : o.number ≢ 0 → o.count ≡ 0
+      → record { answer = packed o.number 0 0 0; memory = m; output = x ++ drop n out } ≡ served_out memory (server_take real memory key packet out)
+  unfolding changed
+  served-refused h z =
+      let same : changed memory m ≡ 0 = rw (kept h, same_refl memory) refl in
+      rw (through.result, through.memory, through.output, z, same) refl
 
 pub take-sized : (memory key packet out array : List ℕ) (x : Exchange) → length key ≡ key_size → array ≡ key → x ≡ served_out memory
     (server_take real memory array packet out) → x ≡ take_by memory key packet out

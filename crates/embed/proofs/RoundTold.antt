@@ -1,26 +1,22 @@
 -- What cendrulas_client_round tells: the bits and the count of the marks, server by server, and the round in hand.
 -- A bit is below the next server's, so that their sum has room in 13 bits. By induction over the servers. Assumes nothing.
-use mathlib.Core.Path.{◌≡◌, refl, sym, ap, ◌∙◌}
+use mathlib.Core.Path.{◌≡◌, refl}
 use mathlib.Core.Logic.{◌≢◌}
-use mathlib.Core.Bool.{Bool, true, false, cond, not}
+use mathlib.Core.Bool.{Bool, true, false, cond}
 use mathlib.Core.List.{List}
 use Prim.Native.Nat.{ℕ, zero, suc, ◌+◌, ◌^◌, ◌≤◌, ◌<◌}
 use native.Mathlib.Nat.{pow-succ', pow-le-pow_right}
 use native.Mathlib.Omega.{arith}
-use lib.Dec.{eqb, lit<}
-use lib.ListN.{length, get_or}
+use lib.Dec.{lit<}
+use lib.ListN.{get_or}
 use borrow.Author.Tests.{eq-eqb, ne_eqb}
 use Rattle.cluster.specs.Ranges.{within, most_servers}
-use Rattle.cluster.specs.Refusals.{wrong_size}
 use Rattle.cluster.proofs.Tests.{within_in, within-high}
 use Rattle.protocol.specs.declared.Call.{Call}
 use Rattle.protocol.specs.Rules.{ByServer, count_to}
 use Rattle.protocol.specs.View.{marked}
 use Rattle.protocol.specs.ClientBytes.{in_hand}
-use Rattle.state.specs.State.{call_at}
-use Rattle.embed.specs.Packing.{packed}
-use Rattle.embed.specs.Clients.{client_size, sized}
-use Rattle.embed.specs.Rounds.{bits_to, round_now, round_told, round_in}
+use Rattle.embed.specs.Rounds.{bits_to, round_now}
 
 -- ---- bits and counts, one more server at a time
 
@@ -35,18 +31,23 @@ pub count_none : (m : ByServer Bool) → count_to 0 m ≡ 0
 unfolding count_to
 count_none m = refl
 
--- x is what the code adds for the mark of server n + 1
-module _ (ms : List ℕ) (n x : ℕ) where
-  pub bits_more : x ≡ cond (not (eqb (get_or ms n 0) 0)) (2 ^ n) 0 → bits_to (n + 1) (marked ms) ≡ bits_to n (marked ms) + x
+-- the mark of server n + 1
+module _ (ms : List ℕ) (n : ℕ) where
+  pub bits_more : get_or ms n 0 ≢ 0 → bits_to (n + 1) (marked ms) ≡ bits_to n (marked ms) + 2 ^ n
   unfolding bits_to marked
-  bits_more e = rw add-one (omega (arith, e))
+  bits_more e = rw (add-one, ne_eqb (get_or ms n 0) 0 e) (omega arith)
 
-  pub count_more : x ≡ cond (not (eqb (get_or ms n 0) 0)) 1 0 → count_to (n + 1) (marked ms) ≡ count_to n (marked ms) + x
+  pub bits-same : get_or ms n 0 ≡ 0 → bits_to (n + 1) (marked ms) ≡ bits_to n (marked ms)
+  unfolding bits_to marked
+  bits-same e = rw (add-one, eq-eqb (get_or ms n 0) 0 e) (omega arith)
+
+  pub count_more : get_or ms n 0 ≢ 0 → count_to (n + 1) (marked ms) ≡ count_to n (marked ms) + 1
   unfolding count_to marked
-  count_more e = rw add-one (omega (arith, e))
+  count_more e = rw (add-one, ne_eqb (get_or ms n 0) 0 e) (omega arith)
 
-pub power_more : (n : ℕ) → 2 ^ (n + 1) ≡ 2 ^ n + 2 ^ n
-power_more n = rw add-one (omega (arith, pow-succ' 2 n))
+  pub count-same : get_or ms n 0 ≡ 0 → count_to (n + 1) (marked ms) ≡ count_to n (marked ms)
+  unfolding count_to marked
+  count-same e = rw (add-one, eq-eqb (get_or ms n 0) 0 e) (omega arith)
 
 -- a bit of the servers 1 to 13, and of one more
 pub bit-room : (n : ℕ) → n ≤ most_servers → 2 ^ n ≤ 8192
@@ -75,19 +76,6 @@ pub round-high : (c : Call) → 6 < c.tally.round → round_now c ≡ 0
 unfolding round_now in_hand
 round-high c h = rw (within-high 1 6 c.tally.round (omega arith) h) refl
 
+pub ruleset rounds = (round-low, round-high)
+
 -- ---- the answer
-
-pub round-unsized : (d : List ℕ) (r : ℕ) → length d ≢ client_size → r ≡ packed wrong_size 0 0 0 → r ≡ round_in d
-unfolding round_in sized
-round-unsized d r h e = rw (ne_eqb (length d) client_size h) e
-
-pub round-sized : (d : List ℕ) → length d ≡ client_size → round_in d ≡ round_told (call_at d)
-unfolding round_in sized
-round-sized d h = rw (eq-eqb (length d) client_size h) refl
-
-pub round-told : (d : List ℕ) (c : Call) (a x n r : ℕ) → length d ≡ client_size → c ≡ call_at d → a ≡ round_now c
-    → x ≡ bits_to most_servers (marked c.tally.marks) → n ≡ count_to most_servers (marked c.tally.marks)
-    → r ≡ packed 0 a x n → r ≡ round_in d
-unfolding round_told
-round-told d c a x n r h is ea ex en e =
-    e ∙ (λ i. packed 0 (ea i) (ex i) (en i)) ∙ unfold round_told in ap round_told is ∙ sym (round-sized d h)

@@ -55,7 +55,7 @@ said-number zero k o h = rw (refusal_back 0 0 0 k (lit< tt) (lit< tt) h, result_
 said-number (suc n) k o h = rw (refusal_back (suc n) 0 0 k (lit< tt) (lit< tt) h) (refused_back (suc n) o)
 
 -- a refusal
-packed-refused : (n : ℕ) → packed_answer (bare (refusals + n)) ≡ packed n 0 0 0
+pub packed-refused : (n : ℕ) → packed_answer (bare (refusals + n)) ≡ packed n 0 0 0
 unfolding packed_answer
 packed-refused n =
     let e : refusals + n - refusals ≡ n = omega arith in

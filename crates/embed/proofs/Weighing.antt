@@ -1,7 +1,6 @@
 -- What the exports of weights and of restoring by them rest on: the operations' answers by cases on their refusal, and how large a count can be.
 -- As many servers are told as are used, and a count of bytes belongs to a legal content. Assumes nothing.
 use mathlib.Core.Path.{◌≡◌, refl, sym, ap, subst, ◌∙◌}
-use mathlib.Core.Logic.{◌≢◌}
 use mathlib.Core.List.{List, ◌++◌}
 use Prim.Native.Nat.{ℕ, zero, suc, ◌*◌, ◌≤◌, ◌<◌}
 use native.Mathlib.Nat.{mul-le-mul, suc-ne-zero}
@@ -9,12 +8,12 @@ use native.Mathlib.Decide.{ℕ_discrete}
 use native.Mathlib.Omega.{arith}
 use lib.ListN.{length, take, drop, length-map}
 use lib.Seq.{take_at}
-use borrow.Author.Tests.{lt-ltb, le-ltb}
+use borrow.Author.Tests.{le-ltb}
 use Rattle.cluster.specs.Config.{shelf}
 use Rattle.cluster.specs.Ranges.{top_length}
-use Rattle.cluster.specs.Refusals.{wrong_size, on_refusal, first_of}
+use Rattle.cluster.specs.Refusals.{on_refusal, first_of}
 use Rattle.cluster.specs.declared.Outcome.{Outcome}
-use Rattle.erasure.specs.declared.WeightsOutcome.{WeightsOutcome}
+use Rattle.erasure.specs.Weights.{WeightsOutcome}
 use Rattle.erasure.specs.Choice.{first_different}
 use Rattle.erasure.specs.System.{width}
 use Rattle.erasure.specs.Weights.{rows_room, weight_rows, weights_checks, weights_refusal_def, used_servers, used_weights, weights_step}
@@ -24,10 +23,9 @@ use Rattle.erasure.proofs.Lists.{length-table}
 use Rattle.erasure.proofs.Refused.{first_of_first}
 use Rattle.erasure.proofs.WeightTests.{named, refused_as-few, sums}
 use Rattle.embed.specs.Packing.{packed}
-use Rattle.embed.specs.Coding.{outcome_of}
-use Rattle.embed.proofs.Laws.{refused_with_lem, carried-out}
+use Rattle.embed.proofs.Laws.{carried-out}
 use Rattle.embed.proofs.Coded.{by_count}
-use Rattle.embed.specs.Weights.{weights_export_refusal, weights_out, weighed_by}
+use Rattle.embed.specs.Weights.{weights_export_refusal, weights_out}
 
 -- ---- the weights
 
@@ -102,30 +100,10 @@ module _ (t : ℕ) (servers : List ℕ) (made : WeightsOutcome) (is : made ≡ w
     pub count_most : made.count ≤ width
     count_most = omega (arith, count_is, threshold-most t servers accepted)
 
-    pub square-most : made.count * made.count ≤ rows_room
-    square-most = mul-le-mul {n₁ = made.count} {m₁ = made.count} {n₂ = width} {m₂ = width} count_most count_most
-
   -- where the outputs have room, the refusal is the operation's own
   pub weights-refusal : (used rows : List ℕ) → width ≤ length used → rows_room ≤ length rows → weights_export_refusal t servers used rows ≡ made.number
   unfolding weights_export_refusal
   weights-refusal used rows h g = rw (le-ltb _ _ h) (rw (le-ltb _ _ g) (sym weights-number))
-
-pub no-used : (t : ℕ) (servers used rows : List ℕ) → length used < width → weights_export_refusal t servers used rows ≡ wrong_size
-unfolding weights_export_refusal
-no-used t servers used rows h = rw (lt-ltb _ _ h) refl
-
-pub no_rows : (t : ℕ) (servers used rows : List ℕ) → width ≤ length used → length rows < rows_room → weights_export_refusal t servers used rows ≡ wrong_size
-unfolding weights_export_refusal
-no_rows t servers used rows h g = rw (le-ltb _ _ h) (rw (lt-ltb _ _ g) refl)
-
--- what a refused call answers and leaves
-pub weights_left : (t : ℕ) (servers used rows : List ℕ) (m r : ℕ) → weights_export_refusal t servers used rows ≡ m → m ≢ 0 → r ≡ packed m 0 0 0
-    → record { answer = r; used = used; rows = rows } ≡ weights_out t servers used rows
-unfolding weights_out
-weights_left t servers used rows m r e some gives =
-    let one = refused_with_lem m (weights_export_refusal t servers used rows) r (used_servers t servers) used e some gives in
-    let two = refused_with_lem m (weights_export_refusal t servers used rows) r (used_weights t servers) rows e some gives in
-    λ i. record { answer = one.0 i; used = one.1 i; rows = two.1 i }
 
 -- and an accepted one, of what the operation made
 pub weights-given : (t : ℕ) (servers used rows : List ℕ) (made : WeightsOutcome) (is : made ≡ weights_step t servers) → made.number ≡ 0
@@ -155,15 +133,3 @@ module _ (t n : ℕ) (rows fragments out : List ℕ) where
 
   pub weighed-count : (r : List ℕ) (o : Outcome) (after : List ℕ) → (o, after) ≡ weighed_step t n r fragments out → o.count ≤ top_length
   weighed-count r o after e = subst (λ (p : Outcome × List ℕ). p.0.count ≤ top_length) (sym e) (most r)
-
-  pub short-rows : (r : ℕ) → length rows < rows_room → r ≡ outcome_of (record { number = wrong_size; count = 0 })
-      → (r ≡ outcome_of (weighed_by t n rows fragments out).0) × (out ≡ (weighed_by t n rows fragments out).1)
-  unfolding weighed_by
-  short-rows r h gives = rw (lt-ltb _ _ h) (gives, refl)
-
-  pub weighed-answer : (o : Outcome) (after : List ℕ) (r : ℕ) → rows_room ≤ length rows
-      → (o, after) ≡ weighed_step t n (take rows_room rows) fragments out → r ≡ outcome_of o
-      → (r ≡ outcome_of (weighed_by t n rows fragments out).0) × (after ≡ (weighed_by t n rows fragments out).1)
-  unfolding weighed_by
-  weighed-answer o after r h e gives =
-      rw (le-ltb _ _ h) (gives ∙ ap (λ (p : Outcome × List ℕ). outcome_of p.0) e, ap (λ (p : Outcome × List ℕ). p.1) e)

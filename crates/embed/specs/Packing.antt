@@ -4,14 +4,26 @@
 --   bits 48 to 51   the result of a client's step, as a drill listing shows it
 --   bits 16 to 47   a stamp's number
 --   bits  0 to 15   how many bytes of the output were written; of a plan, how many numbers; of weights, how many servers
-use Rattle.std.specs.Prelude.{cond, List, ℕ, ◌+◌, ◌-◌, ◌*◌, ◌^◌, ◌/◌, ◌%◌, leb, length}
-use Rattle.cluster.specs.Refusals.{on_refusal}
+use Rattle.std.specs.Prelude.{cond, List, ℕ, ◌+◌, ◌-◌, ◌*◌, ◌^◌, ◌/◌, ◌%◌, leb, ltb, length, Result, Ok, Err}
+use Rattle.cluster.specs.Refusals.{on_refusal, refusal_number}
+use Rattle.cluster.specs.declared.Refusal.{Refusal}
+use Rattle.cluster.specs.declared.Refusal.TheVariants.{WrongSize}
 use Rattle.format.specs.Reading.{over}
 use Rattle.protocol.specs.declared.Answer.{Answer}
 use Rattle.protocol.specs.Answers.{refusals, bare}
+use Rattle.embed.specs.declared.pack.Told.{Told}
 
 unfoldable pub packed : ℕ → ℕ → ℕ → ℕ → ℕ
 packed refusal result number count = refusal * 2 ^ 56 + result * 2 ^ 48 + number * 2 ^ 16 + count
+
+-- what a call told, in one number: a refusal stands alone
+abbrev pub packed_told : Result Told Refusal → ℕ
+packed_told (Ok t) = packed 0 t.result t.number t.count
+packed_told (Err why) = packed (refusal_number why) 0 0 0
+
+-- a count, and nothing else
+abbrev pub only_count : ℕ → Told
+only_count n = record { result = 0; number = 0; count = n }
 
 -- the parts of an answer, as a caller reads them
 unfoldable pub refusal_in : ℕ → ℕ
@@ -49,3 +61,7 @@ answer refusal bytes = packed refusal 0 0 (on_refusal refusal (length bytes) 0)
 
 abbrev pub written_by : ℕ → List ℕ → List ℕ → List ℕ
 written_by refusal bytes out = on_refusal refusal (over bytes out) out
+
+-- bytes for an output of so much room: they are counted, or the room is too little
+unfoldable pub given_def : List ℕ → ℕ → Result Told Refusal
+given_def bytes room = cond (ltb room (length bytes)) (Err WrongSize) (Ok (only_count (length bytes)))

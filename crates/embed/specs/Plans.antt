@@ -2,7 +2,7 @@
 -- the operation's own refusals.
 use Rattle.std.specs.Prelude.{List, [], ◌∷◌, ◌++◌, ℕ, ltb, length}
 use Rattle.cluster.specs.Refusals.{wrong_size, refuse, first_of, on_refusal}
-use Rattle.planner.specs.declared.PlanOutcome.{PlanOutcome}
+use Rattle.planner.specs.Plan.{PlanOutcome}
 use Rattle.planner.specs.Plan.{plan_step}
 
 -- how many numbers a plan has: 13 kinds, 14 counts of candidates, 2 forms of a reply to filter, 6 counts of packets, and a memory's bytes

@@ -1,74 +1,38 @@
-// The client over one lent run of bytes: the small state, then the kept bytes.
-ghost use Rattle.std.specs.Prelude.{◌≡◌, ◌++◌, ◌≤◌, ◌+◌, length, drop};
+// The client over one lent run of bytes: the small state, then the kept bytes. A refused call leaves them as they were.
+ghost use Rattle.std.specs.Prelude.{◌≡◌, ◌<◌, Ok};
 ghost use Rattle.protocol.specs.Answers.{refusals};
-ghost use Rattle.protocol.specs.Primitives.{real};
-ghost use Rattle.protocol.specs.ClientBytes.{begin_write_def, begin_read_def, client_make, client_take};
-ghost use Rattle.state.specs.State.{state_size, call_at, call_bytes};
-ghost use Rattle.embed.specs.Packing.{packed, packed_answer};
-ghost use Rattle.embed.specs.Clients.{client_size, kept_of_def, state_with, write_in_def, read_in_def, give_up_in_def, made_out, make_in_def, took_in, take_in_def};
+ghost use Rattle.embed.specs.Packing.{packed_told, packed_answer};
+ghost use Rattle.embed.specs.Clients.{write_in_def, read_in_def, give_up_in_def, make_in_def, take_in_def};
 
-use super::pack::{array, pack};
+use super::keys::keys_of;
+use super::pack::{Told, array, counted, need, pack};
+use client::Party;
+use cluster::Refusal;
 
 // The bytes of a whole state.
 pub(crate) const CLIENT: usize = state::KEPT_PLACE + wire::kept::KEPT;
 
-// Bytes of all servers' keys.
-const KEYS: usize = cluster::KEY * cluster::MOST_SERVERS;
-
-// Another call at the start of a state.
-fn put_call(state: &mut [u8], call: protocol::Call)
-    requires { length state.old ≡ client_size }
-    ensures { state.new ≡ call_bytes call ++ drop state_size state.old }
-{
-    state::put(state, call);
-}
-
-// A write begins in a state of its size.
-fn write_in(
+#[tactic(auto, unfolding(crate::specs::Clients::write_in_def, crate::specs::Clients::sized_with, crate::specs::Clients::begun_in, client::specs::Core::core_write))]
+fn begin_write(
     state: &mut [u8],
-    t: usize,
-    client: usize,
+    party: Party,
     content: &[u8],
-    nonce: [u8; cluster::KEY],
-) -> cluster::Outcome
-    requires { length state.old ≡ client_size }
-    ensures { (result ≡ (begin_write_def t client (call_at state.old) (kept_of_def state.old) content.now nonce).result)
-        × (state.new ≡ state_with state.old (begin_write_def t client (call_at state.old) (kept_of_def state.old)
-        content.now nonce).call
-        (begin_write_def t client (call_at state.old) (kept_of_def state.old) content.now nonce).kept) }
+    nonce: &[u8],
+) -> Result<Told, Refusal>
+    ensures { record { answer = packed_told result; state = state.new } ≡ write_in_def state.old party.t party.client
+        content.now nonce.now }
 {
-    let call = state::read(state);
-    let at = state::KEPT_PLACE;
-    let begun = client::begin::begin_write_in(
-        call,
-        &mut state[at..],
-        client::Party { t, client },
+    need(state.len() == CLIENT)?;
+    let nonce = array(nonce)?;
+    let call = client::begin::begin_write_in(
+        state::read(state),
+        &mut state[state::KEPT_PLACE..],
+        party,
         content,
         &nonce,
-    );
-    put_call(state, begun.call);
-    begun.outcome
-}
-
-// A read begins in a state of its size.
-fn read_in(state: &mut [u8], t: usize, client: usize) -> cluster::Outcome
-    requires { length state.old ≡ client_size }
-    ensures { (result ≡ (begin_read_def t client (call_at state.old) (kept_of_def state.old)).result)
-        × (state.new ≡ state_with state.old (begin_read_def t client (call_at state.old) (kept_of_def state.old)).call
-        (begin_read_def t client (call_at state.old) (kept_of_def state.old)).kept) }
-{
-    let call = state::read(state);
-    let at = state::KEPT_PLACE;
-    let begun = client::begin::begin_read_in(call, &mut state[at..], client::Party { t, client });
-    put_call(state, begun.call);
-    begun.outcome
-}
-
-// An outcome in one number. A begin writes no output.
-fn outcome(o: cluster::Outcome) -> u64
-    ensures { result ≡ packed o.number 0 0 0 }
-{
-    pack(o.number, 0, 0, 0)
+    )?;
+    state::put(state, call);
+    Ok(counted(0))
 }
 
 pub fn cendrulas_client_begin_write(
@@ -81,73 +45,75 @@ pub fn cendrulas_client_begin_write(
     ensures { record { answer = result; state = state.new } ≡ write_in_def state.old t client content.now
         nonce.now }
 {
-    if state.len() != CLIENT {
-        return pack(cluster::WRONG_SIZE, 0, 0, 0);
-    }
-    if nonce.len() != cluster::KEY {
-        return pack(cluster::WRONG_SIZE, 0, 0, 0);
-    }
-    let begun = write_in(state, t, client, content, array(nonce));
-    outcome(begun)
+    pack(begin_write(state, Party { t, client }, content, nonce))
+}
+
+#[tactic(auto, unfolding(crate::specs::Clients::read_in_def, crate::specs::Clients::sized, crate::specs::Clients::begun_in, client::specs::Core::core_read))]
+fn begin_read(state: &mut [u8], party: Party) -> Result<Told, Refusal>
+    ensures { record { answer = packed_told result; state = state.new } ≡ read_in_def state.old party.t party.client }
+{
+    need(state.len() == CLIENT)?;
+    let call = client::begin::begin_read_in(
+        state::read(state),
+        &mut state[state::KEPT_PLACE..],
+        party,
+    )?;
+    state::put(state, call);
+    Ok(counted(0))
 }
 
 pub fn cendrulas_client_begin_read(state: &mut [u8], t: usize, client: usize) -> u64
     ensures { record { answer = result; state = state.new } ≡ read_in_def state.old t client }
 {
-    if state.len() != CLIENT {
-        return pack(cluster::WRONG_SIZE, 0, 0, 0);
-    }
-    let begun = read_in(state, t, client);
-    outcome(begun)
+    pack(begin_read(state, Party { t, client }))
 }
 
-// An answer in one number.
-fn pack_answer(a: protocol::Answer) -> u64
-    requires { a.result ≤ refusals + 255 }
-    ensures { result ≡ packed_answer a }
+// An answer that tells no refusal: its writer and its result share one byte.
+#[tactic(auto, unfolding(crate::specs::Packing::packed_answer))]
+fn told(a: protocol::Answer) -> Told
+    requires { a.result < refusals }
+    ensures { packed_told (Ok result) ≡ packed_answer a }
 {
-    let result = a.result;
-    if protocol::REFUSALS <= result {
-        return pack((result - protocol::REFUSALS) as u8, 0, 0, 0);
+    Told {
+        result: 16 * (a.writer % 16) + (a.result % 16) as u8,
+        number: a.number,
+        count: a.length,
     }
-    pack(
-        0,
-        16 * (a.writer % 16) + (result % 16) as u8,
-        a.number,
-        a.length,
-    )
+}
+
+#[tactic(auto, unfolding(crate::specs::Clients::give_up_in_def, crate::specs::Clients::sized, crate::specs::Clients::stopped_in))]
+fn give_up(state: &mut [u8], party: Party) -> Result<Told, Refusal>
+    ensures { record { answer = packed_told result; state = state.new } ≡ give_up_in_def state.old party.t party.client }
+{
+    need(state.len() == CLIENT)?;
+    let stopped = client::begin::give_up_in(state::read(state), party)?;
+    state::put(state, stopped.call);
+    Ok(told(protocol::Answer::from(Ok(stopped.answer))))
 }
 
 pub fn cendrulas_client_give_up(state: &mut [u8], t: usize, client: usize) -> u64
     ensures { record { answer = result; state = state.new } ≡ give_up_in_def state.old t client }
 {
-    if state.len() != CLIENT {
-        return pack(cluster::WRONG_SIZE, 0, 0, 0);
-    }
-    let call = state::read(state);
-    let stopped = client::begin::give_up_in(call, client::Party { t, client });
-    put_call(state, stopped.call);
-    let a = stopped.answer;
-    pack_answer(a.answer())
+    pack(give_up(state, Party { t, client }))
 }
 
-// The packet of the pending round, in a state of its size.
-fn make_packet(state: &[u8], t: usize, client: usize, server: usize, out: &mut [u8]) -> u64
-    requires { length state.now ≡ client_size }
-    ensures { record { answer = result; output = out.new } ≡ made_out
-        (client_make t client server (call_at state.now) (kept_of_def state.now) out.old) }
+// The packet of the pending round.
+#[tactic(auto, unfolding(crate::specs::Clients::make_in_def, crate::specs::Clients::sized, client::specs::Core::core_make))]
+fn make(state: &[u8], party: Party, server: usize, out: &mut [u8]) -> Result<Told, Refusal>
+    ensures { record { answer = packed_told result; output = out.new } ≡ make_in_def state.now party.t party.client server
+        out.old }
 {
-    let call = state::read(state);
-    let n = super::servers::lent(out.len());
-    let o = client::packets::make_in(
-        call,
-        wire::bytes::rest(state, state::KEPT_PLACE),
-        client::Party { t, client },
+    need(state.len() == CLIENT)?;
+    // No more than a packet needs is lent on, so that a count fits its 16 bits.
+    let n = out.len().min(cluster::PACKET_ROOM);
+    let count = client::packets::make_in(
+        state::read(state),
+        &state[state::KEPT_PLACE..],
+        party,
         server,
         &mut out[..n],
-    );
-    let count = o.count;
-    pack(o.number, 0, 0, count as u16)
+    )?;
+    Ok(counted(count as u16))
 }
 
 pub fn cendrulas_client_make(
@@ -159,41 +125,35 @@ pub fn cendrulas_client_make(
 ) -> u64
     ensures { record { answer = result; output = out.new } ≡ make_in_def state.now t client server out.old }
 {
-    if state.len() != CLIENT {
-        return pack(cluster::WRONG_SIZE, 0, 0, 0);
-    }
-    make_packet(state, t, client, server, out)
+    pack(make(state, Party { t, client }, server, out))
 }
 
-// A packet is taken in a state of its size.
-fn take_packet(
+#[tactic(auto, unfolding(crate::specs::Clients::take_in_def, crate::specs::Clients::sized_for, crate::specs::Clients::took_in, client::specs::Core::core_take))]
+fn take(
     state: &mut [u8],
-    t: usize,
-    client: usize,
-    writers: &[u8; cluster::KEY],
-    keys: &[[u8; cluster::KEY]; cluster::MOST_SERVERS],
+    party: Party,
+    writers: &[u8],
+    keys: &[u8],
     packet: &[u8],
     out: &mut [u8],
-) -> u64
-    requires { length state.old ≡ client_size }
-    ensures { record { answer = result; state = state.new; output = out.new }
-        ≡ took_in state.old (client_take real t client writers.now keys.now (call_at state.old)
-        (kept_of_def state.old) packet.now out.old) }
+) -> Result<Told, Refusal>
+    ensures { record { answer = packed_told result; state = state.new; output = out.new }
+        ≡ take_in_def state.old party.t party.client writers.now keys.now packet.now out.old }
 {
-    let call = state::read(state);
-    let at = state::KEPT_PLACE;
-    let s = client::taking::take_in(
-        call,
-        &mut state[at..],
-        client::Party { t, client },
-        writers,
-        keys,
+    need(state.len() == CLIENT)?;
+    let writers = array(writers)?;
+    let keys = keys_of(keys)?;
+    let taken = client::taking::take_in(
+        state::read(state),
+        &mut state[state::KEPT_PLACE..],
+        party,
+        &writers,
+        &keys,
         packet,
         out,
-    );
-    put_call(state, s.call);
-    let a = s.answer;
-    pack_answer(a.answer())
+    )?;
+    state::put(state, taken.call);
+    Ok(told(protocol::Answer::from(Ok(taken.answer))))
 }
 
 pub fn cendrulas_client_take(
@@ -208,16 +168,5 @@ pub fn cendrulas_client_take(
     ensures { record { answer = result; state = state.new; output = out.new }
         ≡ take_in_def state.old t client writers.now keys.now packet.now out.old }
 {
-    if state.len() != CLIENT {
-        return pack(cluster::WRONG_SIZE, 0, 0, 0);
-    }
-    if writers.len() != cluster::KEY {
-        return pack(cluster::WRONG_SIZE, 0, 0, 0);
-    }
-    if keys.len() != KEYS {
-        return pack(cluster::WRONG_SIZE, 0, 0, 0);
-    }
-    let w = array(writers);
-    let k = super::keys::keys_of(keys);
-    take_packet(state, t, client, &w, &k, packet, out)
+    pack(take(state, Party { t, client }, writers, keys, packet, out))
 }

@@ -1,30 +1,69 @@
-// What the exported functions share: the packing of an answer, and copies.
-ghost use Rattle.std.specs.Prelude.{◌≡◌, ◌++◌, ◌≤◌, length, take, drop};
-ghost use Rattle.cluster.specs.Ranges.{key_size};
-ghost use Rattle.embed.specs.Packing.{packed};
+// What the exported functions share: the packing of an answer, and the size of what is lent.
+ghost use Rattle.std.specs.Prelude.{◌≡◌, ◌<◌, ◌^◌, cond, eqb, ltb, Ok, Err, length};
+ghost use Rattle.cluster.specs.declared.Refusal.TheVariants.{WrongSize};
+ghost use Rattle.format.specs.Reading.{over};
+ghost use Rattle.embed.specs.Packing.{packed_told, only_count, given_def};
 
-// The four parts of an answer in one number.
-pub(crate) fn pack(refusal: u8, res: u8, number: u32, count: u16) -> u64
-    ensures { result ≡ packed refusal res number count }
-{
-    (refusal as u64) * 0x0100_0000_0000_0000
-        + (res as u64) * 0x0001_0000_0000_0000
-        + (number as u64) * 0x1_0000
-        + (count as u64)
+use cluster::Refusal;
+
+// What an accepted call tells.
+#[derive(Clone, Copy)]
+pub(crate) struct Told {
+    pub(crate) result: u8,
+    pub(crate) number: u32,
+    pub(crate) count: u16,
 }
 
-// Writes the first n bytes of src at the front of dst.
-pub(crate) fn put(dst: &mut [u8], src: &[u8], n: usize)
-    requires { (n ≤ length src.now) × (n ≤ length dst.old) }
-    ensures { dst.new ≡ take n src.now ++ drop n dst.old }
+// A count, and nothing else.
+pub(crate) fn counted(count: u16) -> Told
+    ensures { result ≡ only_count count }
 {
-    let _ = wire::make::put(dst, 0, wire::bytes::part(src, 0, n));
+    Told {
+        result: 0,
+        number: 0,
+        count,
+    }
 }
 
-// A slice of 32 bytes as an array.
-pub(crate) fn array(src: &[u8]) -> [u8; cluster::KEY]
-    requires { length src.now ≡ key_size }
-    ensures { result ≡ src.now }
+// What a call told, in one number.
+#[tactic(auto, unfolding(crate::specs::Packing::packed))]
+pub(crate) fn pack(told: Result<Told, Refusal>) -> u64
+    ensures { result ≡ packed_told told }
 {
-    wire::bytes::nonce_of(src)
+    match told {
+        Ok(told) => {
+            (u64::from(told.result) << 48) + (u64::from(told.number) << 16) + u64::from(told.count)
+        }
+        Err(why) => u64::from(why.number()) << 56,
+    }
+}
+
+// What is lent must have its size.
+pub(crate) fn need(fits: bool) -> Result<(), Refusal>
+    ensures { result ≡ cond fits (Ok tt) (Err WrongSize) }
+{
+    if fits {
+        Ok(())
+    } else {
+        Err(Refusal::WrongSize)
+    }
+}
+
+// A slice of N elements as an array.
+pub(crate) fn array<T: Copy, const N: usize>(src: &[T]) -> Result<[T; N], Refusal>
+    ensures { result ≡ cond (eqb (length src.now) N) (Ok src.now) (Err WrongSize) }
+{
+    <[T; N]>::try_from(src).or(Err(Refusal::WrongSize))
+}
+
+// Bytes at the front of an output, which must have room for them.
+#[tactic(auto, unfolding(crate::specs::Packing::given_def, format::specs::Reading::over))]
+pub(crate) fn give(out: &mut [u8], bytes: &[u8]) -> Result<Told, Refusal>
+    requires { length bytes.now < 2 ^ 16 }
+    ensures value { result ≡ given_def bytes.now (length out.old) }
+    ensures out_after { out.new ≡ cond (ltb (length out.old) (length bytes.now)) out.old (over bytes.now out.old) }
+{
+    need(bytes.len() <= out.len())?;
+    out[..bytes.len()].copy_from_slice(bytes);
+    Ok(counted(bytes.len() as u16))
 }

@@ -1,10 +1,12 @@
 // The plan of a lab, as a row of numbers.
 ghost use Rattle.std.specs.Prelude.{◌≡◌, ◌+◌, ◌≤◌, length};
 ghost use Rattle.format.specs.Reading.{over, Wrote};
-ghost use Rattle.embed.specs.Packing.{answer, written_by};
+ghost use Rattle.planner.specs.Plan.{made_plan};
+ghost use Rattle.embed.specs.Packing.{answer, written_by, packed_told};
 ghost use Rattle.embed.specs.Plans.{plan_room, numbers_of_def, planned_numbers, plan_export_refusal};
 
-use super::pack::pack;
+use super::pack::{Told, counted, need, pack};
+use cluster::Refusal;
 
 // How many numbers a plan has.
 const NUMBERS: usize = planner::KINDS + planner::FILTERS + planner::HELD + planner::PACKETS + 1;
@@ -14,29 +16,39 @@ fn put_at(dst: &mut [usize], at: usize, src: &[usize]) -> usize
     requires { at + length src.now ≤ length dst.old }
     ensures { Wrote dst.old at src.now dst.new result }
 {
-    let mut i = 0;
-    while i < src.len() {
-        dst[at + i] = src[i];
-        i += 1;
-    }
-    at + i
+    let past = at + src.len();
+    dst[at..past].copy_from_slice(src);
+    past
 }
 
 // Writes the parts of a plan one after the other.
-fn put_plan(plan: planner::PlanOutcome, numbers: &mut [usize])
+fn put_plan(plan: planner::LabPlan, numbers: &mut [usize])
     requires { plan_room ≤ length numbers.old }
-    ensures { numbers.new ≡ over (numbers_of_def plan) numbers.old }
+    ensures { numbers.new ≡ over (numbers_of_def (made_plan plan)) numbers.old }
 {
-    let kinds = plan.kinds;
-    let filters = plan.filters;
-    let held = plan.held;
-    let packets = plan.packets;
-    let memory = [plan.memory];
-    let past_kinds = put_at(numbers, 0, &kinds);
-    let past_filters = put_at(numbers, past_kinds, &filters);
-    let past_held = put_at(numbers, past_filters, &held);
-    let past_packets = put_at(numbers, past_held, &packets);
-    let _ = put_at(numbers, past_packets, &memory);
+    let past_kinds = put_at(numbers, 0, &plan.kinds);
+    let past_filters = put_at(numbers, past_kinds, &plan.filters);
+    let past_held = put_at(numbers, past_filters, &plan.held);
+    let past_packets = put_at(numbers, past_held, &plan.packets);
+    let _ = put_at(numbers, past_packets, &[plan.memory]);
+}
+
+#[tactic(auto, using(crate::proofs::Laws::at_refusal, crate::proofs::Planned::counts), unfolding(crate::specs::Plans::plan_export_refusal, crate::specs::Plans::planned_numbers))]
+fn plan(
+    t: usize,
+    length: usize,
+    readers: usize,
+    stores: usize,
+    numbers: &mut [usize],
+) -> Result<Told, Refusal>
+    ensures value { packed_told result ≡ answer (plan_export_refusal t length readers stores numbers.old)
+        (planned_numbers t length readers stores) }
+    ensures numbers_after { numbers.new ≡ written_by (plan_export_refusal t length readers stores numbers.old)
+        (planned_numbers t length readers stores) numbers.old }
+{
+    need(numbers.len() >= NUMBERS)?;
+    put_plan(planner::plan(t, length, readers, stores)?, numbers);
+    Ok(counted(NUMBERS as u16))
 }
 
 pub fn cendrulas_plan(
@@ -50,14 +62,5 @@ pub fn cendrulas_plan(
     ensures numbers_after { numbers.new ≡ written_by (plan_export_refusal t length readers stores numbers.old)
         (planned_numbers t length readers stores) numbers.old }
 {
-    if numbers.len() < NUMBERS {
-        return pack(cluster::WRONG_SIZE, 0, 0, 0);
-    }
-    let plan = planner::plan(t, length, readers, stores);
-    let number = plan.number;
-    if number != 0 {
-        return pack(number, 0, 0, 0);
-    }
-    put_plan(plan, numbers);
-    pack(0, 0, 0, NUMBERS as u16)
+    pack(plan(t, length, readers, stores, numbers))
 }

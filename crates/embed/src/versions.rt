@@ -3,14 +3,14 @@ ghost use Rattle.std.specs.Prelude.{◌≡◌};
 ghost use Rattle.embed.specs.Versions.{version};
 
 // Major, minor, patch: 2.0.0.
-const MAJOR: u32 = 2;
+const MAJOR: u8 = 2;
 
-const MINOR: u32 = 0;
+const MINOR: u8 = 0;
 
-const PATCH: u32 = 0;
+const PATCH: u8 = 0;
 
 pub fn cendrulas_version() -> u32
     ensures { result ≡ version }
 {
-    MAJOR * 0x1_0000 + MINOR * 0x100 + PATCH
+    u32::from_be_bytes([0, MAJOR, MINOR, PATCH])
 }

@@ -1,46 +1,48 @@
 // The weights of restoring, and restoring by them.
-ghost use Rattle.std.specs.Prelude.{◌≡◌, ◌≤◌, length, take};
-ghost use Rattle.erasure.specs.Weights.{rows_room};
+ghost use Rattle.std.specs.Prelude.{◌≡◌};
+ghost use Rattle.embed.specs.Packing.{packed_told};
 ghost use Rattle.embed.specs.Coding.{outcome_of};
 ghost use Rattle.embed.specs.Weights.{weights_out, weighed_by};
 
-use super::pack::{pack, put};
+use super::pack::{Told, array, counted, need, pack};
+use cluster::Refusal;
+
+#[tactic(auto, using(crate::proofs::Laws::at_refusal), unfolding(crate::specs::Weights::weights_out, crate::specs::Weights::weights_export_refusal, erasure::specs::Weights::weights_step))]
+fn weights(t: usize, servers: &[usize], used: &mut [u8], rows: &mut [u8]) -> Result<Told, Refusal>
+    ensures { record { answer = packed_told result; used = used.new; rows = rows.new }
+        ≡ weights_out t servers.now used.old rows.old }
+{
+    need(used.len() >= erasure::WIDTH)?;
+    need(rows.len() >= erasure::ROWS)?;
+    let made = erasure::weights(t, servers)?;
+    let k = made.count;
+    used[..k].copy_from_slice(&made.servers[..k]);
+    rows[..k * k].copy_from_slice(&made.rows[..k * k]);
+    Ok(counted(k as u16))
+}
 
 pub fn cendrulas_weights(t: usize, servers: &[usize], used: &mut [u8], rows: &mut [u8]) -> u64
     ensures { record { answer = result; used = used.new; rows = rows.new }
         ≡ weights_out t servers.now used.old rows.old }
 {
-    if used.len() < erasure::WIDTH {
-        return pack(cluster::WRONG_SIZE, 0, 0, 0);
-    }
-    if rows.len() < erasure::ROWS {
-        return pack(cluster::WRONG_SIZE, 0, 0, 0);
-    }
-    let made = erasure::weights(t, servers);
-    let number = made.number;
-    if number != 0 {
-        return pack(number, 0, 0, 0);
-    }
-    let chosen = made.servers;
-    let weights = made.rows;
-    let k = made.count;
-    put(used, &chosen, k);
-    put(rows, &weights, k * k);
-    pack(0, 0, 0, k as u16)
+    pack(weights(t, servers, used, rows))
 }
 
-// The rows by value.
-fn rows_of(src: &[u8]) -> [u8; erasure::ROWS]
-    requires { rows_room ≤ length src.now }
-    ensures { result ≡ take rows_room src.now }
+// Rows that are cut short are refused by their length.
+#[tactic(auto, using(crate::proofs::Laws::at_refusal), unfolding(crate::specs::Weights::weighed_by))]
+fn restore_weighed(
+    t: usize,
+    length: usize,
+    rows: &[u8],
+    fragments: &[u8],
+    out: &mut [u8],
+) -> Result<Told, Refusal>
+    ensures value { packed_told result ≡ outcome_of (weighed_by t length rows.now fragments.now out.old).0 }
+    ensures out_after { out.new ≡ (weighed_by t length rows.now fragments.now out.old).1 }
 {
-    let mut rows = [0u8; erasure::ROWS];
-    let mut i: usize = 0;
-    while i < erasure::ROWS {
-        rows[i] = src[i];
-        i += 1;
-    }
-    rows
+    let rows = array(&rows[..rows.len().min(erasure::ROWS)])?;
+    let count = erasure::restore_weighed(t, length, rows, fragments, out)?;
+    Ok(counted(count as u16))
 }
 
 pub fn cendrulas_restore_weighed(
@@ -53,11 +55,5 @@ pub fn cendrulas_restore_weighed(
     ensures value { result ≡ outcome_of (weighed_by t length rows.now fragments.now out.old).0 }
     ensures out_after { out.new ≡ (weighed_by t length rows.now fragments.now out.old).1 }
 {
-    if rows.len() < erasure::ROWS {
-        return pack(cluster::WRONG_SIZE, 0, 0, 0);
-    }
-    let outcome = erasure::restore_weighed(t, length, rows_of(rows), fragments, out);
-    let number = outcome.number;
-    let count = outcome.count;
-    pack(number, 0, 0, count as u16)
+    pack(restore_weighed(t, length, rows, fragments, out))
 }

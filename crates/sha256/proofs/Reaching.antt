@@ -1,6 +1,6 @@
 -- The rounds with 16 words of the schedule, word i at place i modulo 16: round n takes its word and puts word n + 16 there, which the
 -- words n to n + 15 give. No other of the next words has the same place. Assumes nothing.
-use mathlib.Core.Path.{◌≡◌, refl, sym, ap, ap₂, ◌∙◌}
+use mathlib.Core.Path.{◌≡◌, refl, sym, ap, ap₂, subst, ◌∙◌}
 use mathlib.Core.List.{List}
 use Prim.Native.Nat.{ℕ, ◌+◌, ◌-◌, ◌%◌, ◌≤◌, ◌<◌}
 use native.Mathlib.Omega.{arith}
@@ -22,6 +22,10 @@ reached_none b s l = record { work = refl; next = λ i p q r. at i q }
     at i q =
         let e : i % 16 ≡ i = omega arith in
         ap (λ (j : ℕ). get_or b j 0) e ∙ sym (grow_first 48 b i (omega arith))
+
+-- however the number of rounds is written
+pub reached_at : (b : List ℕ) (s : Work) (n m : ℕ) (v : Work) (w : List ℕ) → n ≡ m → Reached b s n v w → Reached b s m v w
+reached_at b s n m v w e h = subst (λ (k : ℕ). Reached b s k v w) e h
 
 module _ (b : List ℕ) (s v r : Work) (k w : List ℕ) (n : ℕ) (hk : k ≡ k_table) (q : r ≡ round_of_def v (get_or k n 0) (get_or w (n % 16) 0))
     (h : Reached b s n v w) where

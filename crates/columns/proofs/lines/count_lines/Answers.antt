@@ -3,9 +3,6 @@ use Rattle.std.proofs.Common.{arith}
 use Rattle.columns.proofs.Split.{counted_more, counted-room, counted_all, next-later}
 use Rattle.columns.proofs.lines.count_lines.Goals as goal
 
-pub loop-at-init : goal.loop-at-init
-loop-at-init c = record { within = omega arith; whole = omega arith }
-
 pub overflow_add-n : goal.overflow_add-n
 overflow_add-n c =
     let h = counted-room c.args.text.now c.loop-at.at c.loop-at.n c.loop-at.invariant (omega arith) in omega arith

@@ -1,9 +1,6 @@
-use Rattle.std.proofs.Common.{◌≡◌, ◌-◌, get_or, refl, sym, ◌∙◌, arith}
+use Rattle.std.proofs.Common.{◌≡◌, ◌-◌, get_or, sym, ◌∙◌, arith}
 use Rattle.columns.proofs.Numbers.{tens_more, digits_more, digits_low, digits-high, digits-end}
 use Rattle.columns.proofs.reading.digits_value.Goals as goal
-
-pub loop-b-init : goal.loop-b-init
-loop-b-init c = record { left = refl; small = omega arith }
 
 pub returns-in_default : goal.returns-in_default
 returns-in_default c =

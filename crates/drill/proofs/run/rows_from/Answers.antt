@@ -11,7 +11,7 @@ pub put_last-requires : goal.put_last-requires
 put_last-requires c = row_room _ _ _ _ _ _ _ _ _ _ c.loop-at.invariant c.loop-at-test.true
 
 pub returns-in_default : goal.returns-in_default
-returns-in_default c = going_last _ _ _ _ _ _ _ _ _ _ c.loop-at.invariant c.loop-at-test.true (sym c.in_default.ensures) c.put_last.ensures
+returns-in_default c = rw c.put_last.ensures.1 (going_last _ _ _ _ _ _ _ _ _ _ c.loop-at.invariant c.loop-at-test.true (sym c.in_default.ensures) c.put_last.ensures.0)
 
 pub one_line-requires : goal.one_line-requires
 one_line-requires c =

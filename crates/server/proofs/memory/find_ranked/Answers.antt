@@ -1,5 +1,5 @@
 -- None stored, above all stamps, the highest of them, or searched for by its bytes. Assumes nothing.
-use Rattle.server.proofs.Finding.{find_none, find-above, find-highest, find_searched}
+use Rattle.server.proofs.Finding.{find_none, find-above, find-highest}
 use Rattle.server.proofs.memory.find_ranked.Goals as goal
 
 pub returns-in_err-top : goal.returns-in_err-top
@@ -13,6 +13,3 @@ returns-then-top-key c =
 pub returns-then-stands_at : goal.returns-then-stands_at
 returns-then-stands_at c =
     find-highest c.args.memory.now c.args.opened c.args.bytes.now c.part-stamp.ensures c.in_ok-top.was c.stands_at.ensures c.if-stands_at.true
-
-pub returns : goal.returns
-returns c = find_searched c.args.memory.now c.args.opened c.args.bytes.now c.part-stamp.ensures c.search.result c.search.ensures

@@ -11,9 +11,6 @@ returns-in_default c =
     repeats_none c.args.memory.now c.args.read (λ i. (c.type_inv.memory i).fits) refl refl
     (find_none c.args.memory.now c.args.read x refl c.in_default.is)
 
-pub find_ranked-requires : goal.find_ranked-requires
-find_ranked-requires c = rw c.rest.ensures c.requires
-
 pub returns-then-key-top : goal.returns-then-key-top
 returns-then-key-top c =
     rw c.is_some.ensures
