@@ -5,13 +5,14 @@ ghost use Rattle.embed.specs.Replies.{code_told};
 
 use super::pack::{Told, counted, pack};
 use cluster::Refusal;
+use protocol::kinds::Kind;
 
 #[tactic(auto, using(crate::proofs::Laws::at_refusal), unfolding(crate::specs::Replies::code_told, crate::specs::Replies::code_of, crate::specs::Packets::packet_refusal))]
 fn code(packet: &[u8]) -> Result<Told, Refusal>
     ensures { packed_told result ≡ code_told packet.now }
 {
     let passed = wire::packet::read_packet(packet).ok_or(Refusal::Layout)?;
-    if passed.head.kind != protocol::kinds::STORE_REPLY {
+    if passed.kind != Kind::StoreReply {
         return Ok(counted(0));
     }
     Ok(Told {

@@ -8,6 +8,7 @@ ghost use Rattle.embed.specs.Rounds.{bits_to, round_now, round_in};
 
 use super::pack::{Told, need, pack};
 use cluster::Refusal;
+use protocol::rounds::Round;
 
 // A bit for each server that is marked.
 fn bits(marks: [u8; cluster::MOST_SERVERS]) -> u32
@@ -40,11 +41,7 @@ fn count(marks: [u8; cluster::MOST_SERVERS]) -> u16
 fn round_of(call: protocol::Call) -> u8
     ensures { result ≡ round_now call }
 {
-    if call.tally.round <= protocol::rounds::REPAIR {
-        call.tally.round
-    } else {
-        0
-    }
+    Round::of(call.tally.round).map_or(0, Round::number)
 }
 
 #[tactic(auto, unfolding(crate::specs::Rounds::round_in, crate::specs::Rounds::round_told, crate::specs::Clients::sized))]
