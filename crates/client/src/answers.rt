@@ -1,4 +1,5 @@
 // What a reply leads to.
+// `as` stands where a number has no `From`; the proof says that it fits.
 ghost use Rattle.std.specs.Prelude.{◌≡◌, cond, ◌≤◌, length};
 ghost use Rattle.cluster.specs.Config.{shelf};
 ghost use Rattle.cluster.specs.Ranges.{top_faults, top_length, content_room, most_servers};

@@ -1,4 +1,5 @@
 // Beginning a call, and giving it up.
+// `as` stands where a number has no `From`; the proof says that it fits.
 ghost use Rattle.std.specs.Prelude.{◌≡◌, cond, suc, ◌≤◌, ◌+◌, ◌*◌, eqb, length, replicate};
 ghost use Rattle.cluster.specs.Ranges.{top_length, top_number, most_servers};
 ghost use Rattle.protocol.specs.Values.{nonce_size};

@@ -1,4 +1,5 @@
 // The clock round: the highest stamp number that a quorum knows, and the write under the next one.
+// `as` stands where a number has no `From`; the proof says that it fits.
 ghost use Rattle.std.specs.Prelude.{◌≡◌, List, [], ◌∷◌, ◌&&◌, ℕ, suc, ◌≤◌, ◌<◌, leb, ltb, length};
 ghost use Rattle.cluster.specs.Refusals.{refuse, first_of, number_told};
 ghost use Rattle.cluster.specs.Ranges.{top_faults, top_client, top_number, content_room};

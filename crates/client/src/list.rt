@@ -1,4 +1,5 @@
 // The list of filter: the candidates that are listed, one after another, each as it stands in its slot.
+// `as` stands where a number has no `From`; the proof says that it fits.
 ghost use Rattle.std.specs.Prelude.{◌≡◌, cond, [], suc, ◌≤◌, ◌<◌, ◌+◌, ◌*◌, length};
 ghost use Rattle.cluster.specs.Config.{shelf};
 ghost use Rattle.cluster.specs.Ranges.{top_faults, most_servers};

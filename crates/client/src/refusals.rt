@@ -1,4 +1,5 @@
 // What refuses a step. Each is a function of numbers; the tests stand in document 01's order.
+// `as` stands where a number has no `From`; the proof says that it fits.
 ghost use Rattle.std.specs.Prelude.{◌≡◌, ◌≤◌};
 ghost use Rattle.std.specs.Option.{ForSome};
 ghost use Rattle.std.specs.Result.{ForOk};
@@ -79,7 +80,7 @@ pub(crate) fn read_refusal(party: Party, call: protocol::Call) -> Result<(), Ref
     Ok(())
 }
 
-// S.
+// S, by the t that is lent; cluster has it by a byte.
 pub(crate) fn servers(t: usize) -> usize
     requires { t ≤ top_faults }
     ensures { result ≡ (shelf t).servers }

@@ -1,4 +1,5 @@
 // The tally of a round: which servers have replied, how many, and whether they are a quorum. The marks decide; the count is made of them anew.
+// `as` stands where a number has no `From`; the proof says that it fits.
 ghost use Rattle.std.specs.Prelude.{◌≡◌, ◌≤◌, leb};
 ghost use Rattle.cluster.specs.Config.{shelf, quorum};
 ghost use Rattle.cluster.specs.Ranges.{top_faults, most_servers};

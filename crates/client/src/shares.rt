@@ -1,6 +1,7 @@
 // The shares of a write, each made in its slot of the kept bytes: the content's length, the server's fragment, and what is the same in all shares.
 // That has the digests of all fragments, so it is put behind them once all are made. The content stands below the slots and stays as it was, so
 // each fragment is made of it where it stands.
+// `as` stands where a number has no `From`; the proof says that it fits.
 ghost use Rattle.std.specs.Prelude.{◌≡◌, ◌++◌, suc, ◌≤◌, ◌+◌, ◌*◌, length};
 ghost use Rattle.cluster.specs.Config.{shelf};
 ghost use Rattle.cluster.specs.Ranges.{top_faults, top_length};

@@ -1,4 +1,5 @@
 // A reply is taken: the tests that refuse it, and then its round's step.
+// `as` stands where a number has no `From`; the proof says that it fits.
 ghost use Rattle.std.specs.Prelude.{◌≡◌, false, length};
 ghost use Rattle.cluster.specs.Config.{shelf};
 ghost use Rattle.protocol.specs.Client.{bad_faults, bad_client_def, of_write};

@@ -1,4 +1,5 @@
 // A row of numbers, printed to an output.
+// `as` stands where a number has no `From`; the proof says that it fits.
 ghost use Rattle.std.specs.Prelude.{◌≡◌, ◌++◌, ◌+◌, ◌*◌, ◌≤◌, length, take, drop};
 ghost use Rattle.columns.specs.Columns.{column_size, justified, columns};
 ghost use Rattle.columns.specs.Reads.{row_at};

@@ -50,7 +50,7 @@ fn column_value(s: &[u8]) -> Option<u32>
     number_value(&s[spaces(s)..])
 }
 
-// The numbers of so many columns, and nothing after them.
+// The numbers of so many columns, and nothing after them. By places: a zip would leave an invariant over parts that are lent.
 fn read_columns<const N: usize>(line: &[u8]) -> Option<[u32; N]>
     ensures { told result ≡ read_columns_def N line.now }
 {

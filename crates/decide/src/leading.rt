@@ -68,7 +68,7 @@ fn agrees(kept: &[u8], sought: Sought, d: &[u8], b: usize, j: usize) -> bool
             && intact_at(kept, replied.t, j)
 }
 
-// The members of the group of slot b's reply, where there are enough.
+// The members of the group of slot b's reply, where there are enough; n counts them.
 fn members_of(
     kept: &[u8],
     sought: Sought,

@@ -1,4 +1,5 @@
 // Lengths for a shelf, and runs of bytes.
+// `as` stands where a number has no `From`; the proof says that it fits.
 ghost use Rattle.std.specs.Prelude.{◌≡◌, ◌+◌, ◌*◌, ◌≤◌, length, get_or};
 ghost use Rattle.cluster.specs.Config.{shelf};
 ghost use Rattle.cluster.specs.Ranges.{top_length, top_faults};
@@ -10,7 +11,7 @@ ghost use Rattle.decide.specs.Steps.{rank_at, DigestsAt, TagsAt};
 
 use wire::sizes::{HELD, HELD_LENGTH};
 
-// How many servers there are.
+// How many servers there are, by the t that is lent; cluster has it by a byte.
 pub(crate) fn servers(t: usize) -> usize
     requires { t ≤ top_faults }
     ensures { (result ≡ (shelf t).servers) × (result ≡ 3 * t + 1) }

@@ -1,4 +1,5 @@
 // Which lines of a sheet have the form of the first one, and which that of a step.
+// `as` stands where a number has no `From`; the proof says that it fits.
 ghost use Rattle.std.specs.Prelude.{◌≡◌};
 ghost use Rattle.columns.specs.Lines.{line_at};
 ghost use Rattle.columns.specs.Reads.{told};

@@ -1,4 +1,5 @@
 // A sheet is run: every line's step and its row.
+// `as` stands where a number has no `From`; the proof says that it fits.
 ghost use Rattle.std.specs.Prelude.{◌≡◌, true, ◌+◌, ◌*◌, ◌≤◌, ◌<◌, length, drop, replicate};
 ghost use Rattle.cluster.specs.Ranges.{top_number, top_faults};
 ghost use Rattle.columns.specs.Lines.{lines};

@@ -1,4 +1,5 @@
 // The steps of servers in the work area.
+// `as` stands where a number has no `From`; the proof says that it fits.
 ghost use Rattle.std.specs.Prelude.{◌≡◌, ◌+◌, ◌≤◌, length, replicate};
 ghost use Rattle.cluster.specs.Ranges.{most_servers, memory_size, key_size, top_faults};
 ghost use Rattle.cluster.specs.Refusals.{number_told, outcome_told};

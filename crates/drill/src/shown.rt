@@ -1,4 +1,5 @@
 // What a row shows of a step: its answer, in document 01's numbers.
+// `as` stands where a number has no `From`; the proof says that it fits.
 ghost use Rattle.std.specs.Prelude.{◌≡◌, [], ◌≤◌, length};
 ghost use Rattle.cluster.specs.Ranges.{content_room};
 ghost use Rattle.cluster.specs.Refusals.{refusal_number, number_told};

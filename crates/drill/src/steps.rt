@@ -1,4 +1,5 @@
 // One line's step in the work area.
+// `as` stands where a number has no `From`; the proof says that it fits.
 ghost use Rattle.std.specs.Prelude.{◌≡◌, true, [], ◌≤◌, ◌<◌, length};
 ghost use Rattle.cluster.specs.Ranges.{top_number, top_faults};
 ghost use Rattle.cluster.specs.Refusals.{number_told};

@@ -1,4 +1,5 @@
 // A visit: a client's packet to a server, and its reply back.
+// `as` stands where a number has no `From`; the proof says that it fits.
 ghost use Rattle.std.specs.Prelude.{◌≡◌, ◌+◌, ◌≤◌, ◌<◌, length, replicate};
 ghost use Rattle.cluster.specs.Config.{shelf};
 ghost use Rattle.cluster.specs.Ranges.{most_servers, top_client, top_faults, key_size};

@@ -34,7 +34,7 @@ fn run(rt: &(impl Print + Eprint), sheet: &[u8]) -> io::Result<()> {
     Ok(())
 }
 
-// Reads until the buffer is full or the input ends: how many bytes stand at its start then.
+// Reads until the buffer is full or the input ends: how many bytes stand at its start then. A `while`, since what a read answers says how far it comes.
 fn read_full(input: &mut impl Read, buffer: &mut [u8]) -> io::Result<usize>
     ensures { IfOk result (λ n. n ≤ length buffer.new) }
 {

@@ -1,4 +1,5 @@
 // The client over one lent run of bytes: the small state, then the kept bytes. A refused call leaves them as they were.
+// `as` stands where a number has no `From`; the proof says that it fits.
 ghost use Rattle.std.specs.Prelude.{◌≡◌, ◌<◌, Ok};
 ghost use Rattle.protocol.specs.Answers.{refusals};
 ghost use Rattle.embed.specs.Packing.{packed_told, packed_answer};

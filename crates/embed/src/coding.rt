@@ -1,4 +1,5 @@
 // Fragments and restoring.
+// `as` stands where a number has no `From`; the proof says that it fits.
 ghost use Rattle.std.specs.Prelude.{◌≡◌};
 ghost use Rattle.erasure.specs.Steps.{fragment_bytes, restore_step};
 ghost use Rattle.embed.specs.Packing.{answer, written_by, packed_told};

@@ -1,4 +1,5 @@
 // The drill.
+// `as` stands where a number has no `From`; the proof says that it fits.
 ghost use Rattle.std.specs.Prelude.{◌≡◌};
 ghost use Rattle.drill.specs.Listing.{drill_of};
 ghost use Rattle.embed.specs.Drills.{packed_drill};

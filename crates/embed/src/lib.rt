@@ -1,4 +1,5 @@
 // The library's functions for C and Rust, on numbers and slices only; crate embed_c exports them, and include/cendrulas.h declares them.
+// A crate has symbols for C or is a library that others cite, so each function stands in both, with the same clauses.
 #![tactic(auto)]
 
 pub mod clients;

@@ -1,4 +1,5 @@
 // What the exported functions share: the packing of an answer, and the size of what is lent.
+// `as` stands where a number has no `From`; the proof says that it fits.
 ghost use Rattle.std.specs.Prelude.{◌≡◌, ◌<◌, ◌^◌, cond, eqb, ltb, Ok, Err, length};
 ghost use Rattle.cluster.specs.declared.Refusal.TheVariants.{WrongSize};
 ghost use Rattle.format.specs.Reading.{over};

@@ -1,4 +1,5 @@
 // The plan of a lab, as a row of numbers.
+// `as` stands where a number has no `From`; the proof says that it fits.
 ghost use Rattle.std.specs.Prelude.{◌≡◌, ◌+◌, ◌≤◌, length};
 ghost use Rattle.format.specs.Reading.{over, Wrote};
 ghost use Rattle.planner.specs.Plan.{made_plan};

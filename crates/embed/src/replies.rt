@@ -1,4 +1,5 @@
 // What a store reply says, for a host that must see a full server.
+// `as` stands where a number has no `From`; the proof says that it fits.
 ghost use Rattle.std.specs.Prelude.{◌≡◌};
 ghost use Rattle.embed.specs.Packing.{packed_told};
 ghost use Rattle.embed.specs.Replies.{code_told};

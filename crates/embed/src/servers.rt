@@ -1,4 +1,5 @@
 // The server over its lent memory.
+// `as` stands where a number has no `From`; the proof says that it fits.
 ghost use Rattle.std.specs.Prelude.{◌≡◌, not, ◌&&◌, eqb, drop, get_or};
 ghost use Rattle.protocol.specs.Values.{rank};
 ghost use Rattle.protocol.specs.View.{stamp_at_def};

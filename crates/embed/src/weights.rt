@@ -1,4 +1,5 @@
 // The weights of restoring, and restoring by them.
+// `as` stands where a number has no `From`; the proof says that it fits.
 ghost use Rattle.std.specs.Prelude.{◌≡◌};
 ghost use Rattle.embed.specs.Packing.{packed_told};
 ghost use Rattle.embed.specs.Coding.{outcome_of};

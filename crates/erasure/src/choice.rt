@@ -1,4 +1,5 @@
 // Which fragments restoring uses: those of the first k different servers given.
+// `as` stands where a number has no `From`; the proof says that it fits.
 ghost use Rattle.std.specs.Prelude.{◌≡◌, ◌++◌, ℕ, ◌-◌, ◌≤◌, ◌<◌, ltb, length, take, get_or, replicate};
 ghost use Rattle.cluster.specs.Ranges.{most_servers};
 ghost use Rattle.erasure.specs.System.{width};
@@ -7,7 +8,7 @@ ghost use Rattle.erasure.specs.Chosen.{Holds};
 
 use crate::system::WIDTH;
 
-// The servers chosen so far, and where each stands in the list given.
+// The servers chosen so far, and where each stands in the list given: two arrays and how much of each is filled, since there is no heap.
 #[derive(Clone, Copy)]
 pub(crate) struct Chosen {
     pub(crate) servers: [u8; WIDTH],

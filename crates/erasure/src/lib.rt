@@ -1,4 +1,5 @@
 // Fragments of a content, the content from fragments, and the weights with which they give it.
+// `as` stands where a number has no `From`; the proof says that it fits.
 #![tactic(auto)]
 
 ghost use Rattle.std.specs.Prelude.{◌≡◌, ◌≤◌};
@@ -46,7 +47,7 @@ pub struct WeightRows {
     pub rows: [u8; ROWS],
 }
 
-// S: how many servers there are.
+// S: how many servers there are, and k below, by the t that is lent; cluster has both by a byte.
 pub(crate) fn servers_of(t: usize) -> usize
     requires { t ≤ top_faults }
     ensures { result ≡ (shelf t).servers }

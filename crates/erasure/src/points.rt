@@ -1,5 +1,6 @@
 // Points of servers. A table has the point of server i at the place i - 1; functions take it as they are given it, and only the two public
 // operations choose one.
+// `as` stands where a number has no `From`; the proof says that it fits.
 ghost use Rattle.std.specs.Prelude.{◌≡◌, ℕ, ◌<◌, ◌≤◌, get_or, length};
 ghost use Rattle.cluster.specs.Config.{up_to, point_of};
 ghost use Rattle.cluster.specs.Ranges.{most_servers};

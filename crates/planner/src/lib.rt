@@ -1,4 +1,5 @@
 // A plan of a lab: what its packets and memories take. Definitions stand in specs/Plan.
+// `as` stands where a number has no `From`; the proof says that it fits.
 #![tactic(auto)]
 
 ghost use Rattle.std.specs.Prelude.{◌≡◌, ◌+◌, ◌≤◌};

@@ -34,7 +34,3 @@ impl Code {
         }
     }
 }
-
-pub const HELD: u8 = 10;
-
-pub const FULL: u8 = 11;

@@ -79,7 +79,7 @@ pub struct Label {
     pub writer: u8,
 }
 
-// A packet's head. Document 01 says box for server.
+// A packet's head. Document 01 says box for server. The kind is a number, as the definitions' packets have it; who reads it asks `Kind::of`.
 #[derive(Clone, Copy)]
 pub struct Head {
     pub kind: u8,
@@ -89,7 +89,7 @@ pub struct Head {
     pub call: u32,
 }
 
-// The round of a pending call (0: none), how many servers have replied in it, and which.
+// The round of a pending call (0: none), how many servers have replied in it, and which. A state holds any number there; who reads it asks `Round::of`.
 #[derive(Clone, Copy)]
 pub struct Tally {
     pub round: u8,

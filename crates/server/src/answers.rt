@@ -11,7 +11,7 @@ use cluster::Refusal;
 use protocol::kinds::Kind;
 use wire::bytes::part;
 
-// The head of a reply.
+// The head of a reply. A head has the kind by its number.
 pub(crate) fn reply_head(head: protocol::Head, kind: Kind) -> protocol::Head
     ensures { result ≡ reply_head_def head (kind_number kind) }
 {

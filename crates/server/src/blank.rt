@@ -1,4 +1,5 @@
 // Making a server blank, and its latest candidate only.
+// `as` stands where a number has no `From`; the proof says that it fits.
 ghost use Rattle.std.specs.Prelude.{◌≡◌, length, replicate};
 ghost use Rattle.cluster.specs.Refusals.{done_told};
 ghost use Rattle.protocol.specs.ServerBytes.{blank_step};

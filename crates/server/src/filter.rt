@@ -1,4 +1,5 @@
 // Filter: the highest valid candidate of a list becomes the latest if it is higher, and what is held for its stamp is the reply.
+// `as` stands where a number has no `From`; the proof says that it fits.
 ghost use Rattle.std.specs.Prelude.{◌≡◌, [], ◌∷◌, ◌++◌, ◌≤◌, drop, get_or};
 ghost use Rattle.cluster.specs.Config.{shelf};
 ghost use Rattle.cluster.specs.Refusals.{outcome_told};

@@ -1,4 +1,5 @@
 // Reading a server's memory: the whole check of refusal 2, and the search of the history.
+// `as` stands where a number has no `From`; the proof says that it fits.
 ghost use Rattle.std.specs.Prelude.{◌≡◌, ◌&&◌, ◌≤◌, ltb, length, drop};
 ghost use Rattle.cluster.specs.Config.{shelf};
 ghost use Rattle.cluster.specs.Ranges.{memory_size};

@@ -1,5 +1,6 @@
 // The order in which a list's candidates are tried: from the highest stamp down, the first among equals.
 // A slot's rank is one number for its stamp's rank and the slot, so that no two slots have one rank.
+// `as` stands where a number has no `From`; the proof says that it fits.
 ghost use Rattle.std.specs.Prelude.{◌≡◌};
 ghost use Rattle.cluster.specs.Config.{shelf};
 ghost use Rattle.server.specs.Ranks.{slot_of, rank_of, slot_with_def, next_rank_def};

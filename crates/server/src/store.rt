@@ -1,4 +1,5 @@
 // Store: a write is kept unless its stamp is held or the history is full.
+// `as` stands where a number has no `From`; the proof says that it fits.
 ghost use Rattle.std.specs.Prelude.{◌≡◌, [], ◌∷◌, ◌<◌};
 ghost use Rattle.cluster.specs.Ranges.{capacity};
 ghost use Rattle.cluster.specs.Refusals.{outcome_told};

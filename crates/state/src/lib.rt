@@ -1,4 +1,5 @@
 // A client's small state as bytes, for callers that keep it in lent memory. Every run of bytes has a meaning.
+// `as` stands where a number has no `From`; the proof says that it fits.
 #![tactic(auto)]
 
 ghost use Rattle.std.specs.Prelude.{◌≡◌, ◌<◌, length};

@@ -1,4 +1,5 @@
 // Readers of single fields. Each answers a number and the cursor past the field, or None: there the bytes break the layout.
+// `as` stands where a number has no `From`; the proof says that it fits.
 ghost use Rattle.std.specs.Prelude.{◌<◌, ◌≤◌, length};
 ghost use Rattle.wire.specs.Reads.{FieldAs, RangedAs, byte_l, number2_l, number4_l, code_l, RunAs, ZeroAs};
 

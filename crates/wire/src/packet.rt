@@ -1,4 +1,5 @@
 // Readers of packets. A packet is let through by its fields, one after another, up to its last byte.
+// `as` stands where a number has no `From`; the proof says that it fits.
 ghost use Rattle.std.specs.Prelude.{◌≡◌, ◌≤◌, length};
 ghost use Rattle.cluster.specs.Config.{shelf};
 ghost use Rattle.protocol.specs.Kinds.{kind_number};

@@ -1,6 +1,7 @@
 // Readers of the parts of packets: each lets its fields through one after another, and answers None where the bytes break the layout.
 // A part that begins with a stamp answers the stamp's number and writer too, so that nobody reads them again by their place: the label, 0 and 0 where the
 // stamp is blank; the number that follows the stamp, 0 where none does; and the cursor past the part.
+// `as` stands where a number has no `From`; the proof says that it fits.
 ghost use Rattle.std.specs.Prelude.{◌≡◌, cond, ◌≤◌, eqb, length};
 ghost use Rattle.cluster.specs.Config.{shelf};
 ghost use Rattle.wire.specs.Reads.{FieldAs, LabelledAs, stamp_l, any_stamp_l, share_l, write_l, candidate_l, any_candidate_l, candidates_l, held_l};

@@ -1,4 +1,5 @@
 // The lengths of packets' parts, as the definitions give them for a shelf's t.
+// `as` stands where a number has no `From`; the proof says that it fits.
 ghost use Rattle.std.specs.Prelude.{◌≡◌};
 ghost use Rattle.cluster.specs.Config.{shelf};
 ghost use Rattle.erasure.specs.Fragments.{fragment_size_def};
