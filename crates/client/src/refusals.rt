@@ -1,4 +1,4 @@
-// What refuses a step. Each is a function of numbers; the tests stand in document 01's order.
+// What refuses a step: the tests stand in document 01's order, and tell the pending round where they let it go on.
 // `as` stands where a number has no `From`; the proof says that it fits.
 ghost use Rattle.std.specs.Prelude.{◌≡◌, ◌≤◌};
 ghost use Rattle.std.specs.Option.{ForSome};
