@@ -39,7 +39,7 @@ def missing():
     """The names that are not where a document says, each with its document."""
     wrong = []
     for page in sorted((ROOT / "docs").glob("*.md")):
-        if page.name == "PORT.md":
+        if page.name in ("PORT.md", "DESIGN-PASS.md"):
             # it sets names of another time beside today's
             continue
         text = page.read_text()
