@@ -18,8 +18,6 @@ CALL = re.compile(r"(?:(\.)|(?<!fn )(?<![\w:.]))((?:\w+::)*)(\w+)(?:::<[^>(]*>)?
 FOR_CALLERS = {f"client::{name}" for name in ("begin_write", "begin_read", "take", "give_up", "make")}
 # Whole tables for many look-ups, and how many candidates kept bytes list: our own code looks up one at a time, and sees the count in what it writes.
 FOR_CALLERS |= {"gf256::logarithms::powers", "gf256::logarithms::logs", "decide::count_listed"}
-# What `==` of stamps is, said by a definition: our own code compares stamps by their bytes, and blank ones by `is_blank`.
-FOR_CALLERS |= {"protocol::Stamp::same"}
 
 
 def cited(text, promise):

@@ -1,12 +1,18 @@
 -- Columns are read one after another: the numbers of a line are those of its columns, each at its place.
 -- By induction on the columns. Assumes nothing.
-use Rattle.std.proofs.Common.{◌≡◌, ℕ, zero, suc, ◌+◌, ◌-◌, ◌*◌, ◌/◌, ◌%◌, ◌≤◌, ◌<◌, List, [], ◌∷◌, length, get_or, take, drop, refl, sym, ap, ◌∙◌, arith, length-drop}
+use Rattle.std.proofs.Common.{◌≡◌, ℕ, zero, suc, ◌+◌, ◌-◌, ◌*◌, ◌/◌, ◌%◌, ◌≤◌, ◌<◌, true, false, List, [], ◌∷◌, length, get_or, take, drop, refl, sym, ap, ◌∙◌, arith, length-drop}
 use Rattle.std.proofs.Math.Option.{Option, none, some}
-use Rattle.std.proofs.Math.Seq.{drop-drop}
+use Rattle.std.proofs.Math.Seq.{drop-drop, ext_get_or, get_or-set_same, get_or-set_other}
+use Rattle.std.specs.declared.option.Option as read
+use Rattle.std.specs.Prelude.{Some, None}
+use Rattle.std.specs.Option.{is_some, unwrap_or}
+use lib.ListN.{set}
+use borrow.Author.Count.{below_more}
 use native.Mathlib.Nat.{div-add-mod', mod-lt}
 use borrow.Author.Tests.{eq-eqb, ne_eqb, lt-ltb, le-ltb}
 use Rattle.columns.specs.Lines.{line_length, line_end_def, line_at}
 use Rattle.columns.specs.Columns.{column_size, on_some, column, numbers_in, read_columns_def, read_text}
+use Rattle.columns.specs.Reads.{told, is_read, or_zero, read_into, Fills}
 
 -- column j
 abbrev pub column_in : List ℕ → ℕ → Option ℕ
@@ -42,6 +48,20 @@ numbers-none (suc n) (suc j) b l e =
     go none = refl
     go (some v) = refl
 
+-- the same as tests
+pub numbers-every : (n : ℕ) (b : List ℕ) → ((k : ℕ) → k < n → is_read (column_in b k) ≡ true) → is_read (numbers_in n b) ≡ true
+unfolding numbers_in
+numbers-every zero b h = refl
+numbers-every (suc n) b h =
+    go (column (take column_size b)) (numbers_in n (drop column_size b)) (h 0 (omega arith))
+    (numbers-every n (drop column_size b) (λ k l. ap is_read (column-later b k) ∙ h (suc k) (omega arith)))
+  where
+    go : (o : Option ℕ) (m : Option (List ℕ)) → is_read o ≡ true → is_read m ≡ true
+        → is_read (on_some o (λ v. on_some m (λ vs. some (v ∷ vs)))) ≡ true
+    go none m p q = p
+    go (some v) none p q = q
+    go (some v) (some vs) p q = refl
+
 -- ---- the numbers of columns that were read
 
 pub record First (n : ℕ) (b vs : List ℕ) : Type 0 where
@@ -68,6 +88,37 @@ numbers-length (suc n) b vs e =
     let f = first_of n b vs e in
     ap length f.whole ∙ ap suc (numbers-length n (drop column_size b) f.rest f.tail)
 
+pub numbers-each : (n : ℕ) (b vs : List ℕ) → numbers_in n b ≡ some vs → (k : ℕ) → k < n → column_in b k ≡ some (get_or vs k 0)
+numbers-each zero b vs e k h = absurd (omega arith)
+numbers-each (suc n) b vs e zero h = let f = first_of n b vs e in f.head ∙ ap (λ (z : List ℕ). some (get_or z 0 0)) (sym f.whole)
+numbers-each (suc n) b vs e (suc k) h =
+    let f = first_of n b vs e in
+    sym (column-later b k) ∙ numbers-each n (drop column_size b) f.rest f.tail k (omega arith)
+    ∙ ap (λ (z : List ℕ). some (get_or z (suc k) 0)) (sym f.whole)
+
+pub zero_told : (o : read.Option ℕ) → unwrap_or o 0 ≡ or_zero (told o)
+zero_told None = refl
+zero_told (Some v) = refl
+
+-- one value more
+pub filled_more : (text new : List ℕ) (j v : ℕ) → ((k : ℕ) → k < j → get_or new k 0 ≡ or_zero (column_in text k)) → j < length new
+    → v ≡ or_zero (column_in text j) → (k : ℕ) → k < j + 1 → get_or (set new j v) k 0 ≡ or_zero (column_in text k)
+filled_more text new j v f h e =
+    below_more (λ (k : ℕ). get_or (set new j v) k 0 ≡ or_zero (column_in text k)) j
+    (λ k b. get_or-set_other new j k v 0 (λ q. omega arith) ∙ f k b)
+    (get_or-set_same new j v 0 h ∙ e)
+
+-- values that are each their column's number, where all columns hold one
+pub fills : (text old new : List ℕ) → length new ≡ length old → ((k : ℕ) → k < length old → get_or new k 0 ≡ or_zero (column_in text k))
+    → Fills text old new
+fills text old new size each =
+    record {
+      filled =
+          λ vs e. let n = numbers-length (length old) text vs e in
+          ext_get_or 0 new vs (size ∙ sym n)
+          (λ i b. each i (omega arith) ∙ ap or_zero (numbers-each (length old) text vs e i (omega arith)));
+    }
+
 -- ---- the whole line
 
 module _ (n : ℕ) (b : List ℕ) where
@@ -78,6 +129,24 @@ module _ (n : ℕ) (b : List ℕ) where
   pub same_length : length b ≡ column_size * n → read_columns_def n b ≡ numbers_in n b
   unfolding read_columns_def
   same_length h = rw (eq-eqb (length b) (column_size * n) h)
+
+pub untold : (o : read.Option ℕ) → is_some o ≡ false → told o ≡ none
+untold None e = refl
+untold (Some v) e = let z : ◌≡◌ {A = ℕ} 0 1 = cc in absurd (omega arith)
+
+pub is_told : (o : read.Option ℕ) → is_some o ≡ true → is_read (told o) ≡ true
+is_told None e = let z : ◌≡◌ {A = ℕ} 0 1 = cc in absurd (omega arith)
+is_told (Some v) e = refl
+
+-- whether all columns hold numbers tells whether the line is read, and its numbers
+pub not_read : (o : Option (List ℕ)) (old : List ℕ) → is_read o ≡ false → record { read = false; values = old } ≡ read_into o old
+not_read none old e = refl
+not_read (some vs) old e = let z : ◌≡◌ {A = ℕ} 0 1 = cc in absurd (omega arith)
+
+pub all_read : (o : Option (List ℕ)) (old new : List ℕ) → is_read o ≡ true → ((vs : List ℕ) → o ≡ some vs → new ≡ vs)
+    → record { read = true; values = new } ≡ read_into o old
+all_read none old new e f = let z : ◌≡◌ {A = ℕ} 0 1 = cc in absurd (omega arith)
+all_read (some vs) old new e f = rw (f vs refl)
 
 -- by division: the bytes of n columns
 pub ragged : (x n : ℕ) → (x % 8 ≡ 0 → ⊥) → x ≡ column_size * n → ⊥

@@ -12,6 +12,8 @@ use Rattle.protocol.specs.View.{kept_size}
 use Rattle.protocol.specs.ClientBytes.{told, awaited}
 use Rattle.server.specs.Blank.{blank_latest_def}
 use Rattle.runs.specs.Runs.{Shelf, Lent, config_of, Machines, Done, write, read, make, take-reply, give-up, serve, do_bytes, now_bytes}
+use Rattle.drill.specs.Reads.{verb_number}
+use Rattle.drill.specs.declared.verbs.Verb.TheVariants as verbs
 use Rattle.drill.specs.declared.sheet.Line.{Line}
 use Rattle.drill.specs.declared.shown.Shown.{Shown}
 
@@ -92,10 +94,10 @@ module _ (s : Shelf) (w : Machines) where
 
   unfoldable pub step_of : ℕ → Line → Stepped
   step_of k l =
-      cond (eqb l.verb 1) (write_line k l.client l.length l.fill)
-      (cond (eqb l.verb 2) (after k (do_bytes real s w (read l.client)))
-      (cond (eqb l.verb 3) (after k (visit_line_def l.client l.server))
-      (cond (eqb l.verb 4) (after k (blank_line_def l.server))
+      cond (eqb l.verb (verb_number verbs.Write)) (write_line k l.client l.length l.fill)
+      (cond (eqb l.verb (verb_number verbs.Read)) (after k (do_bytes real s w (read l.client)))
+      (cond (eqb l.verb (verb_number verbs.Visit)) (after k (visit_line_def l.client l.server))
+      (cond (eqb l.verb (verb_number verbs.Unlatest)) (after k (blank_line_def l.server))
       (after k (do_bytes real s w (give-up l.client))))))
 
 -- ---- what is shown

@@ -20,7 +20,7 @@ const FIELDS: usize = 5;
 pub(crate) fn line_at(sheet: &[u8], at: usize) -> Option<Line>
     ensures { told result ≡ read_line_def (line_at sheet.now at) }
 {
-    let [verb, client, server, length, fill]: [u32; FIELDS] = columns::reading::read_line(
+    let [verb, client, server, length, fill]: [u32; FIELDS] = columns::reading::line_numbers(
         sheet, at,
     )?;
     Some(Line {

@@ -113,8 +113,11 @@ fn write_runs(rows: [u8; ROWS], runs: Runs, fragments: &[u8], n: usize, out: &mu
     let k = runs.count;
     let f = runs.size;
     for i in 0..k {
+        let from = i * f;
+        if n <= from {
+            break; // a short content has fewer runs than k
+        }
         let row = crate::weighing::row_at(rows, k, i);
-        let from = n.min(i * f);
         let m = f.min(n - from);
         run(row, runs, fragments, &mut out[from..from + m]);
     }

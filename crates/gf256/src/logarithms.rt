@@ -48,8 +48,11 @@ pub fn powers() -> [u8; 256]
 pub fn logs() -> [u8; 256]
     ensures { ((a : ℕ) → 0 < a → a < 256 → (get_or result a 0 < 255) × (power 3 (get_or result a 0) ≡ a)) × (get_or result 0 0 ≡ 0) }
 {
+    let table = LOG;
     let mut out = [0u8; 256];
-    out[1..].copy_from_slice(&LOG);
+    for k in 0..255 {
+        out[k + 1] = table[k];
+    }
     out
 }
 

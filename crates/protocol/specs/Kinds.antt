@@ -29,18 +29,18 @@ kind_number kind.RepairReply = 12
 -- the kind of a number
 abbrev pub kind_told : ℕ → Option Kind
 kind_told n =
-    cond (eqb n 1) (Some kind.Clock)
-    (cond (eqb n 2) (Some kind.ClockReply)
-    (cond (eqb n 3) (Some kind.Store)
-    (cond (eqb n 4) (Some kind.StoreReply)
-    (cond (eqb n 5) (Some kind.Complete)
-    (cond (eqb n 6) (Some kind.CompleteReply)
-    (cond (eqb n 7) (Some kind.Collect)
-    (cond (eqb n 8) (Some kind.CollectReply)
-    (cond (eqb n 9) (Some kind.Filter)
-    (cond (eqb n 10) (Some kind.FilterReply)
-    (cond (eqb n 11) (Some kind.Repair)
-    (cond (eqb n 12) (Some kind.RepairReply) None)))))))))))
+    cond (eqb n (kind_number kind.Clock)) (Some kind.Clock)
+    (cond (eqb n (kind_number kind.ClockReply)) (Some kind.ClockReply)
+    (cond (eqb n (kind_number kind.Store)) (Some kind.Store)
+    (cond (eqb n (kind_number kind.StoreReply)) (Some kind.StoreReply)
+    (cond (eqb n (kind_number kind.Complete)) (Some kind.Complete)
+    (cond (eqb n (kind_number kind.CompleteReply)) (Some kind.CompleteReply)
+    (cond (eqb n (kind_number kind.Collect)) (Some kind.Collect)
+    (cond (eqb n (kind_number kind.CollectReply)) (Some kind.CollectReply)
+    (cond (eqb n (kind_number kind.Filter)) (Some kind.Filter)
+    (cond (eqb n (kind_number kind.FilterReply)) (Some kind.FilterReply)
+    (cond (eqb n (kind_number kind.Repair)) (Some kind.Repair)
+    (cond (eqb n (kind_number kind.RepairReply)) (Some kind.RepairReply) None)))))))))))
 
 -- ---- rounds
 
@@ -55,12 +55,12 @@ round_number round.Repair = 6
 -- the round of a number; 0 is no call in hand
 abbrev pub round_told : ℕ → Option Round
 round_told n =
-    cond (eqb n 1) (Some round.Clock)
-    (cond (eqb n 2) (Some round.Store)
-    (cond (eqb n 3) (Some round.Complete)
-    (cond (eqb n 4) (Some round.Collect)
-    (cond (eqb n 5) (Some round.Filter)
-    (cond (eqb n 6) (Some round.Repair) None)))))
+    cond (eqb n (round_number round.Clock)) (Some round.Clock)
+    (cond (eqb n (round_number round.Store)) (Some round.Store)
+    (cond (eqb n (round_number round.Complete)) (Some round.Complete)
+    (cond (eqb n (round_number round.Collect)) (Some round.Collect)
+    (cond (eqb n (round_number round.Filter)) (Some round.Filter)
+    (cond (eqb n (round_number round.Repair)) (Some round.Repair) None)))))
 
 -- what a round sends, and what it awaits
 abbrev pub request_of : Round → Kind
@@ -87,4 +87,7 @@ code_number code.Held = 10
 code_number code.Full = 11
 
 abbrev pub code_told : ℕ → Option Code
-code_told n = cond (eqb n 0) (Some code.Kept) (cond (eqb n 10) (Some code.Held) (cond (eqb n 11) (Some code.Full) None))
+code_told n =
+    cond (eqb n (code_number code.Kept)) (Some code.Kept)
+    (cond (eqb n (code_number code.Held)) (Some code.Held)
+    (cond (eqb n (code_number code.Full)) (Some code.Full) None))

@@ -10,6 +10,8 @@ use Rattle.erasure.specs.Fragments.{fragment_size_def}
 use Rattle.protocol.specs.declared.Stamp.{Stamp}
 use Rattle.protocol.specs.declared.Head.{Head}
 use Rattle.format.specs.Format.{Fmt, and_then, whole, empty, byte, number2, number4, run, seq, via, such, or_blank, many, optional}
+use Rattle.protocol.specs.Kinds.{kind_number}
+use Rattle.protocol.specs.declared.kinds.Kind.TheVariants as kinds
 use Rattle.protocol.specs.Values.{Candidate, Share, Write, Held, blank_stamp, blank_candidate, digest_size, nonce_size, stamp_size, digests_size_def, tags_size_def, candidate_size_def}
 
 -- ---- the layouts of the parts
@@ -81,18 +83,18 @@ pub data Body : Type 0 where
   repair_reply : Body
 
 abbrev pub kind_of : Body → ℕ
-kind_of clock = 1
-kind_of (clock_reply x) = 2
-kind_of (store x) = 3
-kind_of (store_reply x) = 4
-kind_of (complete x) = 5
-kind_of complete_reply = 6
-kind_of collect = 7
-kind_of (collect_reply x) = 8
-kind_of (filter x) = 9
-kind_of (filter_reply x) = 10
-kind_of (repair x) = 11
-kind_of repair_reply = 12
+kind_of clock = kind_number kinds.Clock
+kind_of (clock_reply x) = kind_number kinds.ClockReply
+kind_of (store x) = kind_number kinds.Store
+kind_of (store_reply x) = kind_number kinds.StoreReply
+kind_of (complete x) = kind_number kinds.Complete
+kind_of complete_reply = kind_number kinds.CompleteReply
+kind_of collect = kind_number kinds.Collect
+kind_of (collect_reply x) = kind_number kinds.CollectReply
+kind_of (filter x) = kind_number kinds.Filter
+kind_of (filter_reply x) = kind_number kinds.FilterReply
+kind_of (repair x) = kind_number kinds.Repair
+kind_of repair_reply = kind_number kinds.RepairReply
 
 abbrev pub print_body : Config → Body → List ℕ
 print_body s clock = []

@@ -8,6 +8,8 @@ use Rattle.cluster.specs.Refusals.{refuse, first_of}
 use Rattle.hmac.specs.Hmac.{tag_size}
 use Rattle.protocol.specs.Values.{Candidate, Share, Write, same_list, nth, below, blank_candidate, is_some, of_some}
 use Rattle.protocol.specs.Packet.{Body, Packet, kind_of, broken_packet, clock, clock_reply, store, store_reply, complete, complete_reply, collect, collect_reply, filter, filter_reply, repair, repair_reply}
+use Rattle.protocol.specs.Kinds.{code_number}
+use Rattle.protocol.specs.declared.codes.Code.TheVariants as codes
 use Rattle.protocol.specs.Memory.{Memory, lookup, no_record}
 use Rattle.protocol.specs.Primitives.{Primitives, candidate_message}
 
@@ -39,9 +41,9 @@ raise c v = cond (below v.latest.stamp c.stamp) (record { latest = c; history = 
 -- lines 114 to 116. Amended: a held stamp is answered 10 and left as it is, a full history 11, and 0 means kept
 unfoldable pub on_store_def : Server → Write → Acted
 on_store_def v w =
-    cond (is_some (lookup w.stamp v.history)) (record { server = v; reply = store_reply 10 })
-    (cond (leb capacity (length v.history)) (record { server = v; reply = store_reply 11 })
-    (record { server = record { latest = v.latest; history = v.history ++ (w ∷ []) }; reply = store_reply 0 }))
+    cond (is_some (lookup w.stamp v.history)) (record { server = v; reply = store_reply (code_number codes.Held) })
+    (cond (leb capacity (length v.history)) (record { server = v; reply = store_reply (code_number codes.Full) })
+    (record { server = record { latest = v.latest; history = v.history ++ (w ∷ []) }; reply = store_reply (code_number codes.Kept) }))
 
 module _ (P : Primitives) (s : Config) (key : List ℕ) (number : ℕ) where
   -- line 131: the history holds its stamp with the digest of its nonce, or its tag of this server checks

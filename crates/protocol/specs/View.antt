@@ -11,6 +11,8 @@ use Rattle.protocol.specs.declared.Call.{Call}
 use Rattle.format.specs.Format.{value2}
 use Rattle.format.specs.Reading.{bytes_at, number4_at}
 use Rattle.protocol.specs.Values.{Candidate, Share, Held, blank_candidate, no_held, no_share, digest_size, nonce_size, stamp_size, digests_size_def, tags_size_def}
+use Rattle.protocol.specs.Kinds.{round_number}
+use Rattle.protocol.specs.declared.rounds.Round.TheVariants as rounds
 use Rattle.protocol.specs.Rules.{ByServer, gather}
 use Rattle.protocol.specs.Client.{Client, Hand, idle, clocking, storing, completing, collecting, filtering, repairing}
 
@@ -93,15 +95,15 @@ replies_in s ms kept (suc i) = cond (ltb i most_servers && marked ms (suc i)) (h
 unfoldable pub shares_in : Config → List ℕ → ByServer Share
 shares_in s kept b = cond (within 1 s.servers b) (share_at s (reply_slot_of kept (b - 1))) no_share
 
--- round 1 clock, 2 store, 3 complete, 4 collect, 5 filter, 6 repair; any other: no call in hand
+-- by the round's number; any other: no call in hand
 unfoldable pub hand_of : Config → ℕ → Call → List ℕ → Hand
 hand_of s r c kept =
-    cond (eqb r 1) (clocking (content_of c kept) (nonce_of_def kept) c.high)
-    (cond (eqb r 2) (storing (chosen_of s kept) (shares_in s kept))
-    (cond (eqb r 3) (completing (chosen_of s kept))
-    (cond (eqb r 4) (collecting (candidates_in s kept))
-    (cond (eqb r 5) (filtering (gather (candidates_in s kept) s.servers) (replies_in s c.tally.marks kept))
-    (cond (eqb r 6) (repairing (chosen_of s kept) (content_of c kept)) idle)))))
+    cond (eqb r (round_number rounds.Clock)) (clocking (content_of c kept) (nonce_of_def kept) c.high)
+    (cond (eqb r (round_number rounds.Store)) (storing (chosen_of s kept) (shares_in s kept))
+    (cond (eqb r (round_number rounds.Complete)) (completing (chosen_of s kept))
+    (cond (eqb r (round_number rounds.Collect)) (collecting (candidates_in s kept))
+    (cond (eqb r (round_number rounds.Filter)) (filtering (gather (candidates_in s kept) s.servers) (replies_in s c.tally.marks kept))
+    (cond (eqb r (round_number rounds.Repair)) (repairing (chosen_of s kept) (content_of c kept)) idle)))))
 
 unfoldable pub view : Config → Call → List ℕ → Client
 view s c kept = record { calls = c.number; last = c.last; marks = marked c.tally.marks; hand = hand_of s c.tally.round c kept }

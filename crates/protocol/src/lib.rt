@@ -22,14 +22,16 @@ pub struct Stamp {
 
 impl Stamp {
     // All zero.
+    pub const BLANK: Stamp = Stamp {
+        number: 0,
+        writer: 0,
+        tag: [0; hmac::TAG],
+    };
+
     pub const fn blank() -> Stamp
         ensures { result ≡ blank_stamp }
     {
-        Stamp {
-            number: 0,
-            writer: 0,
-            tag: [0; hmac::TAG],
-        }
+        Stamp::BLANK
     }
 
     pub fn new(number: u32, writer: u8, tag: [u8; hmac::TAG]) -> Stamp
@@ -50,11 +52,10 @@ impl Stamp {
         self == other
     }
 
-    #[tactic(auto, using(crate::proofs::Equal::compared), unfolding(crate::specs::Values::same_stamp))]
     pub fn is_blank(self) -> bool
         ensures { result ≡ same_stamp self blank_stamp }
     {
-        self == Stamp::blank()
+        self.same(Stamp::BLANK)
     }
 
     // The place of a number and a writer in the order of stamps, as one number.

@@ -28,12 +28,17 @@ const STAMPED: [usize; 12] = [
     1024,
 ];
 
-// The bytes in hexadecimal, as a line.
+const HEX: [u8; 16] = *b"0123456789abcdef";
+
+// At most 32 bytes in hexadecimal, as a line: written at once, so that a pipe has whole lines.
 fn show(rt: &impl Print, bytes: &[u8]) -> io::Result<()> {
-    for byte in bytes {
-        print!(rt; "{byte:02x}")?;
+    let mut line = [b'\n'; 65];
+    let n = bytes.len().min(32);
+    for (i, byte) in bytes[..n].iter().enumerate() {
+        line[2 * i] = HEX[usize::from(*byte / 16)];
+        line[2 * i + 1] = HEX[usize::from(*byte % 16)];
     }
-    println!(rt)
+    rt.write_all(&line[..2 * n + 1])
 }
 
 fn pattern() -> [u8; 1024] {

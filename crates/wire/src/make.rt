@@ -1,11 +1,24 @@
 // Writing to a buffer, and making packets.
-ghost use Rattle.std.specs.Prelude.{◌≡◌, [], ◌∷◌};
+ghost use Rattle.std.specs.Prelude.{◌≡◌, [], ◌∷◌, ◌+◌, ◌≤◌, length};
 ghost use Rattle.cluster.specs.Refusals.{outcome_told};
 ghost use Rattle.format.specs.Format.{print2, print4};
 ghost use Rattle.protocol.specs.Packet.{head_f, stamp_f};
 ghost use Rattle.wire.specs.Make.{placed, packet_step};
+ghost use Rattle.format.specs.Reading.{Wrote};
 
 use cluster::Refusal;
+
+// The bytes written at a place where there is room for them. Byte by byte and not by `copy_from_slice`, which asks a program that links the archive
+// for `memmove` where it can't see that the two lie apart.
+fn copy(out: &mut [u8], at: usize, bytes: &[u8]) -> usize
+    requires { at + length bytes.now ≤ length out.old }
+    ensures { Wrote out.old at bytes.now out.new result }
+{
+    for (i, b) in bytes.iter().enumerate() {
+        out[at + i] = *b;
+    }
+    at + bytes.len()
+}
 
 // Each put_ writes at a place, or nothing where there is no room, and answers the place past what it wrote.
 pub fn put(out: &mut [u8], at: usize, bytes: &[u8]) -> usize
@@ -14,9 +27,7 @@ pub fn put(out: &mut [u8], at: usize, bytes: &[u8]) -> usize
     if out.len() < at || out.len() - at < bytes.len() {
         return at;
     }
-    let end = at + bytes.len();
-    out[at..end].copy_from_slice(bytes);
-    end
+    copy(out, at, bytes)
 }
 
 pub fn put_byte(out: &mut [u8], at: usize, v: u8) -> usize

@@ -46,13 +46,15 @@ pub struct CandidateHead {
 
 impl CandidateHead {
     // All zero.
+    pub const BLANK: CandidateHead = CandidateHead {
+        stamp: protocol::Stamp::BLANK,
+        nonce: [0; cluster::KEY],
+    };
+
     pub const fn blank() -> CandidateHead
         ensures { result ≡ blank_head }
     {
-        CandidateHead {
-            stamp: protocol::Stamp::blank(),
-            nonce: [0; cluster::KEY],
-        }
+        CandidateHead::BLANK
     }
 
     pub fn new(stamp: protocol::Stamp, nonce: [u8; cluster::KEY]) -> CandidateHead
@@ -61,11 +63,11 @@ impl CandidateHead {
         CandidateHead { stamp, nonce }
     }
 
-    #[tactic(auto, using(protocol::proofs::Equal::compared), unfolding(protocol::specs::Values::same_stamp, crate::specs::Places::same_head))]
+    #[tactic(auto, using(protocol::proofs::Equal::compared), unfolding(crate::specs::Places::same_head))]
     pub fn is_blank(self) -> bool
         ensures { result ≡ same_head self blank_head }
     {
-        self == CandidateHead::blank()
+        self.stamp.is_blank() && self.nonce == CandidateHead::BLANK.nonce
     }
 
     // Candidates are ordered by their stamps.

@@ -1,6 +1,4 @@
-use Rattle.std.proofs.Common.{◌≡◌, ℕ, ◌+◌, ◌-◌, length, refl, arith}
-use Rattle.std.proofs.lemmas.Slice.{put_mid-paste}
-use Rattle.format.proofs.Puts.{wrote-copy}
+use Rattle.std.proofs.Common.{arith}
 use Rattle.wire.proofs.Put.{wrote-placed, none-placed}
 use Rattle.wire.proofs.make.put.Goals as goal
 use Rattle.wire.proofs.make.put.Goals.{then-out-at-via-then-out-at, then-out-at-via-else-out-at+then-out-at-2}
@@ -14,9 +12,4 @@ returns-then-out-at c =
     ]
 
 pub returns : goal.returns
-returns c =
-    let a = c.args in
-    let n : ℕ = length a.bytes.now in
-    let e : n ≡ a.at + n - a.at = omega arith in
-    wrote-placed (rw (put_mid-paste a.at (a.at + n - a.at) a.out.now c.copy_from_slice.new.self a.bytes.now n c.copy_from_slice.ensures.after e refl)
-    (wrote-copy a.out.now a.at a.bytes.now)) (omega arith)
+returns c = wrote-placed c.copy.ensures (omega arith)
