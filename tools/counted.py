@@ -84,13 +84,15 @@ def number(name, place):
 
 
 def constant(name, place):
-    """The number of a constant of the code, as in MEMORY of cluster/lib; or of the header, the wrapper (cendrulas/..), the plain
+    """The number of a constant of the code, as in MEMORY of cluster/lib, or of a refusal, as in Refusal::Layout; or of the header, the wrapper (cendrulas/..), the plain
     shelf (plain/..) or the tests' model of a state (model/..)."""
     crate, file = place.split("/")
     if crate == "include":
         return value(HEADER, rf"^#define {name} (\d+)u\b")
     if crate in HOSTS:
         return value(HOSTS[crate] / f"{file}.rs", rf"^pub const {name}: \w+ = ([\d_]+);")
+    if name.startswith("Refusal::"):
+        return value(ROOT / "crates" / crate / "src" / f"{file}.rt", rf"^ +{name} => (\d+),$")
     return value(ROOT / "crates" / crate / "src" / f"{file}.rt", rf"^(?:pub(?:\(crate\))? )?const {name}: \w+ = (\d+|b'(?:\\.|.)');")
 
 

@@ -10,7 +10,8 @@ from trying import ROOT, crate_lines, read_edit
 
 FUNCTION = re.compile(r"^( *)pub (?:const )?(?:extern \"C\" )?fn (\w+)(?:<[^(]*>)?\(.*?^\1\}$", re.M | re.S)
 GHOST = re.compile(r"^ghost use (Rattle\S+?)\.\{(.*?)\};", re.M)
-PRIVATE = re.compile(r"^fn (\w+)(?:<[^(]*>)?\(.*?^\}$", re.M | re.S)
+# a conversion to a type of ours; what it gives is its promise
+CONVERSION = re.compile(r"^impl From<([^{]*)> for (\w+) \{\n    ghost from_gives = \{(.*?)\};\n.*?^\}$", re.M | re.S)
 TYPE = re.compile(r"^impl (\w+) \{", re.M)
 USE = re.compile(r"^(?:pub )?use ([\w:]+?)(?:::\{([^}]*)\})?;", re.M)
 CALL = re.compile(r"(?:(\.)|(?<!fn )(?<![\w:.]))((?:\w+::)*)(\w+)(?:::<[^>(]*>)?\(")
@@ -43,6 +44,16 @@ def functions():
             for match in FUNCTION.finditer(text):
                 kinds = [m.group(1) for m in TYPE.finditer(text, 0, match.start())] if match.group(1) else []
                 yield crate, "::".join([crate, *module, *kinds[-1:], match.group(2)]), file, text, match
+
+
+def conversions():
+    """The same of each conversion, with the path of its `from`; its type is told besides."""
+    for crate in crate_lines():
+        for file in sorted((ROOT / "crates" / crate / "src").glob("*.rt")):
+            text = file.read_text()
+            module = [] if file.stem in ("lib", "main") else [file.stem]
+            for match in CONVERSION.finditer(text):
+                yield crate, "::".join([crate, *module, match.group(2), "from"]), file, text, match
 
 
 def calls():
@@ -82,26 +93,12 @@ def called(found, path, file, match):
     return sum(not (f == file and match.start() <= at < match.end()) for f, at in places)
 
 
-def own(text, match):
-    """The text of a function, as places in the file's, and that of each private function of the file that it alone calls: what it is made of."""
-    homes, new = [match], [match]
-    private = {m.group(1): m for m in PRIVATE.finditer(text)}
-    asked = [name for method, path, name in CALL.findall(text) if not method and not path]
-    while new:
-        body = new.pop().group(0)
-        parts = [private[name] for method, path, name in CALL.findall(body) if not method and not path and name in private and asked.count(name) == 1]
-        new += [part for part in parts if part not in homes]
-        homes += [part for part in parts if part not in homes]
-    return [(home.start(), home.end()) for home in homes]
-
-
 def edited(crate, file, text, match):
-    """How many edits change a function, or a private one that it alone calls: an edit's old text begins in it, or it begins in the edit's old text."""
-    homes = own(text, match)
+    """How many edits change the text of a function: an edit's old text begins in it, or it begins in the edit's old text."""
 
     def within(old):
         at = text.find(old)
-        return at >= 0 and any(at < end and start < at + len(old) for start, end in homes)
+        return at >= 0 and at < match.end() and match.start() < at + len(old)
 
     edits = (read_edit(edit)[1] for edit in (ROOT / "crates" / crate).glob("*/*.edit"))
     return sum(any(name == f"src/{file.name}" and within(old) for name, old, _ in pairs) for pairs in edits)

@@ -88,6 +88,17 @@ pub(crate) fn make(points: &[u8], k: usize, f: usize, server: usize, content: &[
     value(points, plain_runs(f, k), content, points[server - 1])
 }
 
+// The same bytes. One by one and not by `copy_from_slice`, which asks a program that links the archive for `memmove` where it can't see that the two
+// lie apart.
+fn copy(from: &[u8], to: &mut [u8])
+    requires { length from.now ≡ length to.old }
+    ensures { to.new ≡ from.now }
+{
+    for (i, b) in from.iter().enumerate() {
+        to[i] = *b;
+    }
+}
+
 // A run, as far as out goes: a copy where its row copies, and otherwise the sum that it weighs.
 fn run(row: [u8; WIDTH], runs: Runs, fragments: &[u8], out: &mut [u8])
     requires { (runs.count ≤ width) × ((j : ℕ) → j < runs.count → get_or runs.starts j 0 + length out.old ≤ length fragments.now)
@@ -97,7 +108,7 @@ fn run(row: [u8; WIDTH], runs: Runs, fragments: &[u8], out: &mut [u8])
     match crate::weighing::unit_of(row, runs.count) {
         Some(j) => {
             let from = runs.starts[j];
-            out.copy_from_slice(&fragments[from..from + out.len()]);
+            copy(&fragments[from..from + out.len()], out);
         }
         None => crate::lanes::combine(row, runs, fragments, out),
     }

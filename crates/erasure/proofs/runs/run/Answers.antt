@@ -12,8 +12,8 @@ returns-in-Some c =
     let unit = c.in-Some.ensures in
     let j = c.in-Some.j in
     let from = get_or runs.starts j 0 in
-    let copied = c.copy_from_slice in
-    table_is (length c.args.out.now) copied.new.self (sum_at runs.count (λ i. get_or c.args.row i 0) fragments runs.starts)
-    (part_long fragments copied.new.self from _ _ copied.ensures.after (omega arith) (c.requires.1 j unit.0))
-    (λ q h. part_at fragments copied.new.self from _ _ copied.ensures.after (omega arith) q h
+    let copied = c.copy in
+    table_is (length c.args.out.now) copied.new.to (sum_at runs.count (λ i. get_or c.args.row i 0) fragments runs.starts)
+    (part_long fragments copied.new.to from _ _ copied.ensures (omega arith) (c.requires.1 j unit.0))
+    (λ q h. part_at fragments copied.new.to from _ _ copied.ensures (omega arith) q h
     ∙ sym (copies runs.count (λ i. get_or c.args.row i 0) fragments runs.starts q j unit.0 unit.1 unit.2 (λ i. (c.type_inv.fragments i).fits)))
