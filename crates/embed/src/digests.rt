@@ -6,7 +6,7 @@ ghost use Rattle.protocol.specs.Values.{digest_size};
 ghost use Rattle.embed.specs.Packing.{answer, written_by, packed_told};
 ghost use Rattle.embed.specs.Digests.{digest_refusal, keyed_refusal_def};
 
-use crate::pack::{Told, array, give, pack};
+use crate::pack::{Told, array, give, need, pack};
 use cluster::Refusal;
 
 #[tactic(auto, using(crate::proofs::Laws::lengths), unfolding(crate::specs::Digests::digest_refusal, crate::specs::Packing::given_def))]
@@ -14,6 +14,10 @@ pub fn cendrulas_digest(message: &[u8], out: &mut [u8]) -> u64
     ensures value { result ≡ answer (digest_refusal out.old) (sha256 message.now) }
     ensures out_after { out.new ≡ written_by (digest_refusal out.old) (sha256 message.now) out.old }
 {
+    // the room before the digest: a refusal does not take longer for a longer message
+    if out.len() < sha256::DIGEST {
+        return pack(Err(Refusal::WrongSize));
+    }
     pack(give(out, &sha256::digest(message)))
 }
 
@@ -24,6 +28,7 @@ fn tag(key: &[u8], message: &[u8], out: &mut [u8]) -> Result<Told, Refusal>
     ensures out_after { out.new ≡ written_by (keyed_refusal_def tag_size key.now (length out.old))
         (tag_of key.now message.now) out.old }
 {
+    need(hmac::TAG <= out.len())?;
     give(out, &hmac::tag(array(key)?, message))
 }
 
@@ -42,6 +47,7 @@ fn whole(key: &[u8], message: &[u8], out: &mut [u8]) -> Result<Told, Refusal>
     ensures out_after { out.new ≡ written_by (keyed_refusal_def digest_size key.now (length out.old))
         (hmac_sha256 key.now message.now) out.old }
 {
+    need(sha256::DIGEST <= out.len())?;
     give(out, &hmac::hmac(array(key)?, message))
 }
 
