@@ -67,7 +67,7 @@ impl CandidateHead {
     pub fn is_blank(self) -> bool
         ensures { result ≡ same_head self blank_head }
     {
-        self.stamp.is_blank() && self.nonce == CandidateHead::BLANK.nonce
+        self.stamp.is_blank() && self.nonce == CandidateHead::blank().nonce
     }
 
     // Candidates are ordered by their stamps.
