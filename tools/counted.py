@@ -84,8 +84,8 @@ def number(name, place):
 
 
 def constant(name, place):
-    """The number of a constant of the code, as in MEMORY of cluster/lib, or of a refusal, as in Refusal::Layout; or of the header, the wrapper (cendrulas/..), the plain
-    shelf (plain/..) or the tests' model of a state (model/..)."""
+    """The number of a constant of the code, as in MEMORY of cluster/lib, or of a refusal, as in Refusal::Layout; or of the header, the wrapper
+    (cendrulas/..), the plain shelf (plain/..) or the tests' model of a state (model/..)."""
     crate, file = place.split("/")
     if crate == "include":
         return value(HEADER, rf"^#define {name} (\d+)u\b")

@@ -35,25 +35,26 @@ def cited(text, promise):
     return found
 
 
-def functions():
-    """Crate, path of the name, file, text of the file, and match of each public function."""
+def sources():
+    """Each source of a listed crate: the crate, the path of its module, the file and its text."""
     for crate in crate_lines():
         for file in sorted((ROOT / "crates" / crate / "src").glob("*.rt")):
-            text = file.read_text()
-            module = [] if file.stem in ("lib", "main") else [file.stem]
-            for match in FUNCTION.finditer(text):
-                kinds = [m.group(1) for m in TYPE.finditer(text, 0, match.start())] if match.group(1) else []
-                yield crate, "::".join([crate, *module, *kinds[-1:], match.group(2)]), file, text, match
+            yield crate, [crate] + ([] if file.stem in ("lib", "main") else [file.stem]), file, file.read_text()
+
+
+def functions():
+    """Crate, path of the name, file, text of the file, and match of each public function."""
+    for crate, module, file, text in sources():
+        for match in FUNCTION.finditer(text):
+            kinds = [m.group(1) for m in TYPE.finditer(text, 0, match.start())] if match.group(1) else []
+            yield crate, "::".join([*module, *kinds[-1:], match.group(2)]), file, text, match
 
 
 def conversions():
-    """The same of each conversion, with the path of its `from`; its type is told besides."""
-    for crate in crate_lines():
-        for file in sorted((ROOT / "crates" / crate / "src").glob("*.rt")):
-            text = file.read_text()
-            module = [] if file.stem in ("lib", "main") else [file.stem]
-            for match in CONVERSION.finditer(text):
-                yield crate, "::".join([crate, *module, match.group(2), "from"]), file, text, match
+    """The same of each conversion by `From`, whose path ends in its type and `from`."""
+    for crate, module, file, text in sources():
+        for match in CONVERSION.finditer(text):
+            yield crate, "::".join([*module, match.group(2), "from"]), file, text, match
 
 
 def calls():
